@@ -3,13 +3,13 @@
 #
 #   root      the top of the repository
 #   program   the program's crate
-#   part      the crate of the same program without threads, if it can answer the call, or nothing
+#   part      the crate of the same program without threads, if it can do the run, or nothing
 #   commands  the program's commands, each between blanks
 #   usage     the source file that has the program's usage
 #
 # If the program is not built, or a source has been touched since, build.py proves and builds it first. If it
-# was never built here, a call that `part` can answer waits only for `part`. A call without a command or a file
-# builds nothing. If a tool is missing or the build fails, the status is 125, which no other call returns.
+# was never built here, a run that `part` can do waits only for `part`. A run without a command or a file
+# builds nothing. If a tool is missing or the build fails, the status is 125, which no other run returns.
 # shellcheck shell=bash disable=SC2154
 
 # When each source was last touched, and which toolchain is on the path; if there is none, any counts as the

@@ -10,7 +10,7 @@ there=$1
 [ ! -e "$there" ] || { echo "new.sh: $there exists already" >&2; exit 1; }
 
 # The crates that the striped map needs, lowest first.
-below="split_key txn_words txn_trace stripe_part striped_map"
+below="split_key txn_words txn_trace stripe_shard striped_map"
 
 mkdir -p "$there/crates/counter/src" "$there/crates/counter/proofs" "$there/crates/counter/specs"
 for crate in $below; do

@@ -161,25 +161,25 @@ touch out
 expect 'no folder for builds' 125 '' ./build.py judge
 holds 'it says which' grep -qF "judge: [Errno 20] Not a directory: '$repository/out" "$work/err"
 rm out
-expect 'a call without a command' 2 '' ./boostmap
+expect 'a run without a command' 2 '' ./boostmap
 holds 'it prints the usage' prints err 'usage: it'
-expect 'a call without a file' 2 '' ./judge check
-expect 'a call of the part' 0 'low unthreaded' ./boostmap replay file
+expect 'a run without a file' 2 '' ./judge check
+expect 'a run of the part' 0 'low unthreaded' ./boostmap replay file
 holds 'the part runs' prints out "unthreaded $repository/out/unthreaded replay file"
-expect 'a call of the whole' 0 'boostmap high mid' ./boostmap run file
+expect 'a run of the whole' 0 'boostmap high mid' ./boostmap run file
 holds 'the whole runs' prints out "boostmap $repository/out/boostmap run file"
-expect 'a call once all is built' 0 '' ./boostmap replay file
+expect 'a run once all is built' 0 '' ./boostmap replay file
 holds 'the whole answers' prints out "boostmap $repository/out/boostmap replay file"
 holds 'nothing is said' prints err ''
 expect 'without rt' 0 '' env RT=no_rt ./boostmap replay file
 expect 'the version' 0 '' ./judge --version
 holds 'it is that of the file' prints out "judge $(<VERSION)"
 echo 'pub more' >>crates/high/src/lib.rt
-expect 'a call after an edit, without rt' 125 '' env RT=no_rt ./boostmap replay file
-expect 'a call after an edit' 0 'boostmap high' ./boostmap replay file
+expect 'a run after an edit, without rt' 125 '' env RT=no_rt ./boostmap replay file
+expect 'a run after an edit' 0 'boostmap high' ./boostmap replay file
 holds 'the whole answers again' prints out "boostmap $repository/out/boostmap replay file"
 find crates -name '*.rt' -exec touch {} +
-expect 'a call after newer files' 0 '' ./boostmap replay file
+expect 'a run after newer files' 0 '' ./boostmap replay file
 holds 'nothing is said again' prints err ''
 
 # .ci/quick, with parts that write down how they are called.

@@ -1,6 +1,6 @@
 #!/usr/bin/env bash
-# Tests ./look: that its first call of a program compiles it, that later calls take a few seconds at most, from any folder, and
-# that each call of both programs prints what the proved program prints, with its status. By default the proved programs are
+# Tests ./look: that its first run of a program compiles it, that later runs take a few seconds at most, from any folder, and
+# that each run of both programs prints what the proved program prints, with its status. By default the proved programs are
 # those that `rt ci` builds. It needs rt, and takes two minutes.
 # The last line is 'look: N passed, M failed', and the status is 1 if M is not 0.
 # Usage: tests/look.sh [BOOSTMAP [JUDGE]]
@@ -16,10 +16,10 @@ tar c --exclude 'crates/*/out' boostmap judge look launcher.sh tools.sh VERSION 
 cp -r examples/. samples/judge/example.json "$work/copy"
 cd "$work/copy" || exit 1
 
-# The note that a call ends with on standard error, by the script that proves the program.
+# The note that a run ends with on standard error, by the script that proves the program.
 note() { echo "look: this run is not proved; ./$1 proves the program before it runs it"; }
 
-# like SCRIPT PROGRAM WORD..: runs a call by ./look and by the proved program, and compares them.
+# like SCRIPT PROGRAM WORD..: runs a program by ./look and by the proved program, and compares them.
 like() {
   local script=$1 proved=$2 words=(./look)
   shift 2
@@ -31,13 +31,13 @@ like() {
   judge "$script $*" $wanted "$(<"$work/out.wanted")" "$(note "$script")$(sed '1s/^/\n/' "$work/err.wanted")"
 }
 
-# compiles SCRIPT WORD..: runs the first call of a program.
+# compiles SCRIPT WORD..: runs a program for the first time.
 compiles() {
   local script=$1
   shift
   ./look "$@" >"$work/out" 2>"$work/err" </dev/null
   echo $? >"$work/status"
-  judge "the first call: $*" 0 'legal 2 commits 0 open' "look: compiling $script; this takes a minute or two, once"$'\n'"$(note "$script")"
+  judge "the first run: $*" 0 'legal 2 commits 0 open' "look: compiling $script; this takes a minute or two, once"$'\n'"$(note "$script")"
 }
 
 compiles boostmap check checked.json

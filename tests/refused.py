@@ -29,7 +29,7 @@ table_tests map_ops_tests::refused::refused_memory_for_puts
 table_tests map_ops_tests::refused::refused_memory_for_a_preparation
 table_tests map_ops_tests::refused::refused_memory_for_a_link
 table_tests probe_map_tests::refused_memory
-table_tests stripe_part_tests::refused_memory
+table_tests stripe_shard_tests::refused_memory
 striped_tests refused::refused_memory
 striped_tests refused::refused_memory_with_room
 thread_tests lock_tests::a_stripe_is_held_until_its_holder_releases

@@ -2,13 +2,13 @@
 -- changes at most the caller's room, and the entry of any other answer is one that the rules of
 -- shape and locks allow. The same is shown of a `Save` that is refused memory.
 use Rattle.std.proofs.Common.{◌≡◌, ℕ, ◌+◌, ◌-◌, ◌^◌, ◌<◌, ◌==◌, ◌||◌, true, false, cond, [], ◌++◌, length, Option, Some, None, refl, sym, ap, subst, ◌∙◌, arith, slice_get, slice_set, map, nat_eq, not, eq-eqb, ne_eqb, append-nil, inl, inr, ◌⊎◌, option_map, Bool}
-use Rattle.boost_core.proofs.Vocabulary.{option_eq, slice_get_within, Op, Refusal, key_of, takes_node, PendingAt, Step, serial, now, Opened, Waiting, LeavingToEnd, RoomySeat, TableAt, cursor_changes, map_of, nodes_of, false≢true, cases_eq, and_from, or_right, Now, stripe_of, is_locked, holder_of, same_is, is_locked-asked, is_locked-busy, Prepares, IsRefused, entries_of, held_by, Session, Owner, Caller, Helper, holder_by, refusal_of, has_stamp_for, MayLack, times_of, times_in, IsCoveredWith, StaysCovered, World, Tells, LastPlacedFits, state_of, session_changes, gap_if, may_stand, Move, Claim, Lock, Goes, Side, side_of, KeepsPlaced, times_kept, Reach, reach, AsksIn, MeetsIn, NoMemory, StampsUsedUp, Ask, Save, log_of, last_of, or_left, StaleWord, Right, Held, Stale, is_taken, nodes_at, gap_by, helper_gaps_of, KeepsNodes}
+use Rattle.boost_core.proofs.Vocabulary.{option_eq, slice_get_within, Op, Refusal, key_of, takes_node, PendingAt, Step, serial, now, Opened, Waiting, LeavingToEnd, RoomyStance, TableAt, cursor_changes, map_of, nodes_of, false≢true, cases_eq, and_from, or_right, Now, stripe_of, is_locked, holder_of, same_is, is_locked-asked, is_locked-busy, Prepares, IsRefused, entries_of, held_by, Session, Owner, Caller, Helper, holder_by, refusal_of, has_stamp_for, MayLack, times_of, times_in, IsCoveredWith, StaysCovered, World, Tells, LastPlacedFits, state_of, session_changes, gap_if, may_stand, Move, Claim, Lock, Goes, Side, side_of, KeepsPlaced, times_kept, Reach, reach, AsksIn, MeetsIn, NoMemory, StampsUsedUp, Ask, Save, log_of, last_of, or_left, StaleWord, Right, Held, Stale, is_taken, nodes_at, gap_by, helper_gaps_of, KeepsNodes}
 use Rattle.boost_core.proofs.Numbers.{no_more}
 use Rattle.boost_core.proofs.Moves.{changes_same, gaps_same, lacks, none_dropped, state_is}
-use Rattle.boost_core.proofs.OneCaller.{Stays, world_after, seated_as, set_cases}
+use Rattle.boost_core.proofs.OneCaller.{Stays, world_after, stance_as, set_cases}
 use Rattle.boost_core.proofs.Outcomes.{Comes, Called, CalledBy, entered, idle_cursor, nothing_waits, quiet}
 use Rattle.boost_core.proofs.Spares.{spent, given_for, open_to, nodes_then, buckets_same}
-use Rattle.boost_core.proofs.SideRefusals.{seat_free, three_tests}
+use Rattle.boost_core.proofs.SideRefusals.{stance_free, three_tests}
 use Rattle.boost_core.proofs.Gaps.{same_fits, same_helper}
 use Rattle.txn_words.specs.declared.entry.Entry.TheVariants as entry
 use Rattle.txn_words.specs.declared.answer.Answer.TheVariants as answers
@@ -18,20 +18,20 @@ module _ (w : World) (tells : Tells w) (c : ℕ) (x : Session) (at : slice_get w
   -- The cursor that was placed last still fits if the nodes, the buckets and the caller's cursor
   -- are unchanged.
   pub fresh_kept : (y : Session) → y.cursor ≡ x.cursor → (t' : TableAt) → nodes_of t' ≡ nodes_of w.table → t'.buckets ≡ w.table.buckets
-      → (seat' : RoomySeat) (o : Option Owner) → LastPlacedFits w.table w.sessions o
-      → LastPlacedFits t' (slice_set w.sessions c (seated_as y seat')) o
-  fresh_kept y same t' nodes buckets seat' None fresh = tt
-  fresh_kept y same t' nodes buckets seat' (Some (Helper d)) fresh = same_helper w.table t' d nodes buckets ∙ fresh
-  fresh_kept y same t' nodes buckets seat' (Some (Caller d)) fresh =
+      → (stance' : RoomyStance) (o : Option Owner) → LastPlacedFits w.table w.sessions o
+      → LastPlacedFits t' (slice_set w.sessions c (stance_as y stance')) o
+  fresh_kept y same t' nodes buckets stance' None fresh = tt
+  fresh_kept y same t' nodes buckets stance' (Some (Helper d)) fresh = same_helper w.table t' d nodes buckets ∙ fresh
+  fresh_kept y same t' nodes buckets stance' (Some (Caller d)) fresh =
       λ s cursor at_d had. same_fits w.table t' cursor nodes ∙
-      (elim (set_cases w.sessions c d (seated_as y seat') s (slice_get_within w.sessions c x at) at_d) [
+      (elim (set_cases w.sessions c d (stance_as y stance') s (slice_get_within w.sessions c x at) at_d) [
         | inl mine ↦ fresh x cursor (ap (slice_get w.sessions) mine.0 ∙ at) (sym same ∙ ap (λ (q : Session). q.cursor) (sym mine.1) ∙ had)
         | inr other ↦ fresh s cursor other.1 had
       ])
 
-  -- The outcome of a refused step. The step may change the room of the caller's seat, and nothing
+  -- The outcome of a refused step. The step may change the room of the caller's stance, and nothing
   -- else.
-  module _ (claim : Claim) (step : Step) (refusal : Refusal) (goes : Goes claim (state_of w) step (answers.Refused refusal) (state_of w)) (opened : x.seat.seat.phase ≡ Opened) (y : Session) (stays : side_of y ≡ side_of x) where
+  module _ (claim : Claim) (step : Step) (refusal : Refusal) (goes : Goes claim (state_of w) step (answers.Refused refusal) (state_of w)) (opened : x.stance.stance.phase ≡ Opened) (y : Session) (stays : side_of y ≡ side_of x) where
     pub lacking_stays : Stays w c x y w.table w.locks w.counts
     lacking_stays = record {
       cursor = x.cursor;
@@ -46,28 +46,28 @@ module _ (w : World) (tells : Tells w) (c : ℕ) (x : Session) (at : slice_get w
       same_counts = refl;
     }
 
-    lacking_goes : (seat' : RoomySeat) → Goes claim (state_of w) step (answers.Refused refusal) (state_of (world_after w c (seated_as y seat') w.history w.counts w.table w.locks w.placed))
-    lacking_goes seat' =
-        let cursors = sym (changes_same w.sessions c x (seated_as y seat') at (ap (λ (s : Side). option_map cursor_changes s.cursor) stays)) in
-        let gaps = sym (gaps_same w.table w.sessions c x (seated_as y seat') at (ap (λ (s : Side). gap_if w.table s.cursor) stays)) in
+    lacking_goes : (stance' : RoomyStance) → Goes claim (state_of w) step (answers.Refused refusal) (state_of (world_after w c (stance_as y stance') w.history w.counts w.table w.locks w.placed))
+    lacking_goes stance' =
+        let cursors = sym (changes_same w.sessions c x (stance_as y stance') at (ap (λ (s : Side). option_map cursor_changes s.cursor) stays)) in
+        let gaps = sym (gaps_same w.table w.sessions c x (stance_as y stance') at (ap (λ (s : Side). gap_if w.table s.cursor) stays)) in
         subst (Goes claim (state_of w) step (answers.Refused refusal)) (λ i. record (state_of w) { cursors = cursors i; gaps = gaps i }) goes
 
     pub lacking_called : entries_of step (answers.Refused refusal) ≡ [] → CalledBy claim w c x step (answers.Refused refusal) y w.table w.locks
     lacking_called no_entry = record {
       comes = subst (Comes w c x y w.table w.locks w.counts) (sym no_entry) lacking_stays;
-      move = λ seat'. subst (λ g. Goes claim (state_of w) step (answers.Refused refusal) (state_of (world_after w c (seated_as y seat') g w.counts w.table w.locks w.placed))) (sym (ap (λ es. w.history ++ es) no_entry ∙ append-nil w.history)) (lacking_goes seat');
-      fresh = λ seat'. fresh_kept y (ap (λ (s : Side). s.cursor) stays) w.table refl refl seat' w.placed tells.fresh;
+      move = λ stance'. subst (λ g. Goes claim (state_of w) step (answers.Refused refusal) (state_of (world_after w c (stance_as y stance') g w.counts w.table w.locks w.placed))) (sym (ap (λ es. w.history ++ es) no_entry ∙ append-nil w.history)) (lacking_goes stance');
+      fresh = λ stance'. fresh_kept y (ap (λ (s : Side). s.cursor) stays) w.table refl refl stance' w.placed tells.fresh;
     }
 
   -- If no test refuses the step `Save`, the refusal `NoMemory` is a possible outcome. It leaves the
   -- caller's side, the table and the locks unchanged.
   pub save_refused : refusal_of (state_of w) (Save c) ≡ None → (y : Session) → side_of y ≡ side_of x → Called w c x (Save c) (answers.Refused NoMemory) y w.table w.locks
   save_refused none y stays =
-      lacking_called Lock (Save c) NoMemory (lacks (state_of w) (Save c) NoMemory none tt) (three_tests x.seat.seat _ _ _ _ (seat_free w tells c x at (Save c) refl none)).0 y stays refl
+      lacking_called Lock (Save c) NoMemory (lacks (state_of w) (Save c) NoMemory none tt) (three_tests x.stance.stance _ _ _ _ (stance_free w tells c x at (Save c) refl none)).0 y stays refl
 
   module _ (op : Op) (none : refusal_of (state_of w) (Ask c op) ≡ None) where
-    pub opened : x.seat.seat.phase ≡ Opened
-    opened = (three_tests x.seat.seat _ _ _ _ (seat_free w tells c x at (Ask c op) refl none)).0
+    pub opened : x.stance.stance.phase ≡ Opened
+    opened = (three_tests x.stance.stance _ _ _ _ (stance_free w tells c x at (Ask c op) refl none)).0
 
     pub nothing : x.pending ≡ None
     nothing = nothing_waits w tells c x at Opened opened refl
@@ -132,18 +132,18 @@ module _ (w : World) (tells : Tells w) (c : ℕ) (x : Session) (at : slice_get w
           )
           asks.prepares.nodes.linked
           (record {
-            seat = record { phase = Waiting op; standing = x.seat.seat.standing; kept = x.seat.seat.kept };
+            stance = record { phase = Waiting op; standing = x.stance.stance.standing; kept = x.stance.stance.kept };
             committed = serial w.history;
             current = now w.history;
             holder = holder;
             side = asked_side;
             becomes = asks.becomes ∙ (λ i. record asked_side { cursor = no_cursor_there i });
-            next = rw (tells.seated c x at).log at (laws.asked w.limits.stripes w.history tells.legal c op x.seat.seat (tells.seated c x at).seat opened locked);
+            next = rw (tells.its_stance c x at).log at (laws.asked w.limits.stripes w.history tells.legal c op x.stance.stance (tells.its_stance c x at).stance opened locked);
             mine = refl;
             saved = λ is. absurd (false≢true is);
-            kept = (tells.seated c x at).agrees.kept;
+            kept = (tells.its_stance c x at).agrees.kept;
             waits = (asks.prepares.op_is, asks.room, (given_for w.table new.table (takes_node op) asks.pending.spare asks.prepares.given).has);
-            due = (tells.seated c x at).due;
+            due = (tells.its_stance c x at).due;
             content = ap map_of asks.prepares.nodes.regular ∙ tells.content;
             apart = λ d other k held. refl;
             placed = keeps;
@@ -183,18 +183,18 @@ module _ (w : World) (tells : Tells w) (c : ℕ) (x : Session) (at : slice_get w
           (none, and_from (w.words || has_stamp_for (state_of w) op) (may_stand (state_of w) (entry.Busy c op holder)) (or_right w.words (has_stamp_for (state_of w) op) busy_stamped) (stands words))
           busy_kept.linked
           (record {
-            seat = record { phase = LeavingToEnd; standing = x.seat.seat.standing; kept = x.seat.seat.kept };
+            stance = record { phase = LeavingToEnd; standing = x.stance.stance.standing; kept = x.stance.stance.kept };
             committed = serial w.history;
             current = now w.history;
             holder = λ s. holder_of w.limits.stripes s w.history;
             side = side_of x;
             becomes = meets.becomes ∙ (λ i. record (side_of x) { cursor = no_cursor_there i });
-            next = rw (tells.seated c x at).log at (laws.busy w.limits.stripes w.history tells.legal c op holder x.seat.seat (tells.seated c x at).seat opened (stands words));
+            next = rw (tells.its_stance c x at).log at (laws.busy w.limits.stripes w.history tells.legal c op holder x.stance.stance (tells.its_stance c x at).stance opened (stands words));
             mine = refl;
             saved = λ is. absurd (false≢true is);
-            kept = (tells.seated c x at).agrees.kept;
+            kept = (tells.its_stance c x at).agrees.kept;
             waits = rw nothing tt;
-            due = (tells.seated c x at).due;
+            due = (tells.its_stance c x at).due;
             content = ap map_of busy_kept.regular ∙ tells.content;
             apart = λ d other k held. refl;
             placed = keeps;
@@ -227,24 +227,24 @@ module _ (w : World) (tells : Tells w) (c : ℕ) (x : Session) (at : slice_get w
         same_counts = refl;
       }
 
-      stale_state : (seat' : RoomySeat) → state_of (world_after w c (seated_as new.session seat') (w.history ++ []) w.counts new.table new.locks w.placed)
-          ≡ record (state_of w) { stamp = last_of new.table; nodes = nodes_at new.table; gaps = map (gap_by new.table) (slice_set w.sessions c (seated_as new.session seat')); helper_gaps = helper_gaps_of new.table }
-      stale_state seat' =
-          state_is w (w.history ++ []) w.history w.counts new.table (map session_changes w.sessions) (slice_set w.sessions c (seated_as new.session seat')) new.locks w.placed busy_kept.buckets busy_kept.linked (append-nil w.history)
-          (changes_same w.sessions c x (seated_as new.session seat') at (ap (λ (s : Side). option_map cursor_changes s.cursor) meets.becomes))
-          ∙ ap (λ (noted : ℕ). record (state_of w) { changes = noted; stamp = last_of new.table; nodes = nodes_at new.table; gaps = map (gap_by new.table) (slice_set w.sessions c (seated_as new.session seat')); helper_gaps = helper_gaps_of new.table }) busy_kept.changes
+      stale_state : (stance' : RoomyStance) → state_of (world_after w c (stance_as new.session stance') (w.history ++ []) w.counts new.table new.locks w.placed)
+          ≡ record (state_of w) { stamp = last_of new.table; nodes = nodes_at new.table; gaps = map (gap_by new.table) (slice_set w.sessions c (stance_as new.session stance')); helper_gaps = helper_gaps_of new.table }
+      stale_state stance' =
+          state_is w (w.history ++ []) w.history w.counts new.table (map session_changes w.sessions) (slice_set w.sessions c (stance_as new.session stance')) new.locks w.placed busy_kept.buckets busy_kept.linked (append-nil w.history)
+          (changes_same w.sessions c x (stance_as new.session stance') at (ap (λ (s : Side). option_map cursor_changes s.cursor) meets.becomes))
+          ∙ ap (λ (noted : ℕ). record (state_of w) { changes = noted; stamp = last_of new.table; nodes = nodes_at new.table; gaps = map (gap_by new.table) (slice_set w.sessions c (stance_as new.session stance')); helper_gaps = helper_gaps_of new.table }) busy_kept.changes
 
       pub stale_called : CalledBy Right w c x (Ask c op) (answers.Refused StaleWord) new.session new.table new.locks
       stale_called = record {
         comes = stale_stays;
-        move = λ seat'. inl (record {
+        move = λ stance'. inl (record {
           refused = refl;
           free = none;
           stale = and_from (has_stamp_for (state_of w) op) (is_taken (state_of w) c op) busy_stamped taken;
-          state = stale_state seat';
+          state = stale_state stance';
         });
-        fresh = λ seat'. fresh_kept new.session
-            (ap (λ (s : Side). s.cursor) meets.becomes) new.table busy_kept.all busy_kept.buckets.all seat' w.placed tells.fresh;
+        fresh = λ stance'. fresh_kept new.session
+            (ap (λ (s : Side). s.cursor) meets.becomes) new.table busy_kept.all busy_kept.buckets.all stance' w.placed tells.fresh;
       }
 
     -- Suppose that the stripe's word names a caller that may hold the stripe. Then the answer to
@@ -259,12 +259,12 @@ module _ (w : World) (tells : Tells w) (c : ℕ) (x : Session) (at : slice_get w
               (or_left w.words (has_stamp_for (state_of w) op) words) stands,
         ) refl
         (quiet w tells c x at (entry.Busy c op named) x
-        (record { phase = LeavingToEnd; standing = x.seat.seat.standing; kept = x.seat.seat.kept }) x.log.kept (log_of c w.history)
+        (record { phase = LeavingToEnd; standing = x.stance.stance.standing; kept = x.stance.stance.kept }) x.log.kept (log_of c w.history)
         (serial w.history) (λ s. holder_of w.limits.stripes s w.history) w.locks w.counts
-        (laws.busy w.limits.stripes w.history tells.legal c op named x.seat.seat (tells.seated c x at).seat opened stands) (tells.seated c x at).log
-        refl (λ is. absurd (false≢true is)) (tells.seated c x at).agrees.kept refl nothing no_cursor_there refl
+        (laws.busy w.limits.stripes w.history tells.legal c op named x.stance.stance (tells.its_stance c x at).stance opened stands) (tells.its_stance c x at).log
+        refl (λ is. absurd (false≢true is)) (tells.its_stance c x at).agrees.kept refl nothing no_cursor_there refl
         (no_more w.counts.began) (no_more w.counts.committed) refl tells.holders) in
-        record { comes = is.comes; move = λ seat'. inr (eq-eqb named named refl, is.move seat'); fresh = is.fresh }
+        record { comes = is.comes; move = λ stance'. inr (eq-eqb named named refl, is.move stance'); fresh = is.fresh }
 
     -- If the claim of the step `Ask` is `Stale`, the step is refused with `StaleWord` and changes
     -- nothing.

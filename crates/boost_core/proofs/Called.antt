@@ -4,7 +4,7 @@ use Rattle.boost_core.proofs.Vocabulary.{false≢true, slice_get_within, slice_g
 use Rattle.boost_core.proofs.Outcomes.{Called, CalledBy}
 use Rattle.boost_core.proofs.Spares.{owns_if}
 use Rattle.boost_core.proofs.OneCaller.{one_of_sum}
-use Rattle.boost_core.proofs.SideRefusals.{caller_in, free, seat_free, cursor_free, set_here, noted_some}
+use Rattle.boost_core.proofs.SideRefusals.{caller_in, free, stance_free, cursor_free, set_here, noted_some}
 use Rattle.boost_core.proofs.BoundaryMoves.{begun, saved, left, committed, withdrawn, returned, ended}
 use Rattle.boost_core.proofs.AskMoves.{asked_called, busy_called, ask_refused, save_refused, stale_called, held_called, word_stale_called}
 use Rattle.boost_core.proofs.WorkMoves.{did_called, undone_called, sought_called, again_called}
@@ -30,7 +30,7 @@ module _ (w : World) (tells : Tells w) (x : Session) (new : Reach) (keeps : Keep
       → IsAsked c (stripe_of w.limits.stripes (key_of op)) op old own new → CalledBy Right w c x (steps.Ask c op) (unless_busy own) new.session new.table new.locks
   asked_with c op at none within answers.Asked does =
       let is = asked_called w tells c x at op none new does keeps within in
-      record { comes = is.comes; move = λ seat'. inr (refl, is.move seat'); fresh = is.fresh }
+      record { comes = is.comes; move = λ stance'. inr (refl, is.move stance'); fresh = is.fresh }
   asked_with c op at none within (answers.Busy holder) does = stale_called w tells c x at op none holder new does keeps within
   asked_with c op at none within (answers.Refused refusal) does = rw does.2 (ask_refused w tells c x at op none Right refusal (λ move. inr (refl, move)) new.session does.0 does.1)
   asked_with c op at none within _ does = absurd does
@@ -88,9 +88,9 @@ pub takes : (w : World) → Tells w → (c : ℕ) (x : Session) → slice_get w.
     → w.limits.callers ≤ 64 → 0 < w.limits.stripes → w.counts.began < 2 ^ 63 → w.counts.committed < 2 ^ 63 → MayTakeStep w.limits.stripes w.counts step (reach x w.table w.locks)
 takes w tells c x at step owner none callers some began done = record {
   goes = record {
-    agrees = (tells.seated c x at).agrees;
+    agrees = (tells.its_stance c x at).agrees;
     sought = tells.sought c x at;
-    due = rw tells.content (tells.seated c x at).due;
+    due = rw tells.content (tells.its_stance c x at).due;
     withdraws = owns_if w.table (spare_if x.pending) (all_times w.sessions) (λ place stamp.
         omega (arith, most place stamp)) tells.spares;
     settles = (
@@ -98,7 +98,7 @@ takes w tells c x at step owner none callers some began done = record {
       λ place stamp. omega (arith, most place stamp, tells.spares place stamp),
     );
   };
-  free = (w.limits.half, seat_free w tells c x at step owner none);
+  free = (w.limits.half, stance_free w tells c x at step owner none);
   placed = cursor_free w tells c x at step owner none;
   owner = (c, owner);
   caller = λ d is.

@@ -1,12 +1,12 @@
 -- Shows what each step does to the nodes, the change number and the last stamp, because it does to
 -- the machine's list what its call of the table does to the table's list.
 use Rattle.std.proofs.Common.{arith, ◌≡◌, ◌⊎◌, ℕ, ◌-◌, ◌%◌, ◌≤◌, Bool, true, false, List, [], ◌∷◌, ◌++◌, length, Option, Some, None, is_some, inl, inr, refl, sym, ap, subst, ◌∙◌, reverse, slice_get, unwrap_or, nat_lt, nat_eq, IsSome, option_map, Result, Ok, Err}
-use Rattle.boost_core.proofs.Vocabulary.{option_eq, false≢true, cases_Bool, slice_get-map, unwrap_or-slice_get, regular_at, Op, Put, Take, Get, PutIf, Refusal, Step, Answer, Phase, Waiting, LeavingTo, LeavingToEnd, Map, get, key_of, now, log_of, stripe_of, Seat, kept_at, newest_above, MapJob, Unput, Restore, Relink, length-map, reverse-append, ancestor_of, NodeAt, changes_after, sought, IsDummyAt, PendingAt, key_of_job, value_before, takes_node, IsDue, TableAt, SpareAt, KeepsNodes, KeepsList, NamesDummies, content, nodes_of, size_of, stored_of, table_changes, last_of, SeeksNear, IsRefused, Session, State, Caller, is_set, seat_in, owner_of, Touches, stamp_after, Writes, Links, Marks, SeeksFrom, SeeksKey, IsNearest, Changes, PutsIf, OpDoes, OpDoesIn, BackDoes, Lists, next_key_in, next_key, newest_key, Reach, reach, HasEffect, ActsIn, DoesIn, TakesBackIn, SeeksIn, IsAsked, AsksBy, unless_busy, Waits, AreDue, key_of_newest, target_in, target_of, changes_of, Claim, Lock, Right, IsClaim, ListsAsk, ListsBy, stamp_by, World, Tells, state_of, node_at, NoMemory, StaleWord, Abort, Act, Ask, Back, Begin, Commit, Save, Seek, dummy_at, InitSeek, InitLink, SweepOutcome, dummy_node, Sweeps, Seeking, SeekChanges, LinkChanges, Help, Nothing, helps_of, help_in, bucket_at, Serves, Sweeping}
+use Rattle.boost_core.proofs.Vocabulary.{option_eq, false≢true, cases_Bool, slice_get-map, unwrap_or-slice_get, regular_at, Op, Put, Take, Get, PutIf, Refusal, Step, Answer, Phase, Waiting, LeavingTo, LeavingToEnd, Map, get, key_of, now, log_of, stripe_of, Stance, kept_at, newest_above, MapJob, Unput, Restore, Relink, length-map, reverse-append, ancestor_of, NodeAt, changes_after, sought, IsDummyAt, PendingAt, key_of_job, value_before, takes_node, IsDue, TableAt, SpareAt, KeepsNodes, KeepsList, NamesDummies, content, nodes_of, size_of, stored_of, table_changes, last_of, SeeksNear, IsRefused, Session, State, Caller, is_set, stance_in, owner_of, Touches, stamp_after, Writes, Links, Marks, SeeksFrom, SeeksKey, IsNearest, Changes, PutsIf, OpDoes, OpDoesIn, BackDoes, Lists, next_key_in, next_key, newest_key, Reach, reach, HasEffect, ActsIn, DoesIn, TakesBackIn, SeeksIn, IsAsked, AsksBy, unless_busy, Waits, AreDue, key_of_newest, target_in, target_of, changes_of, Claim, Lock, Right, IsClaim, ListsAsk, ListsBy, stamp_by, World, Tells, state_of, node_at, NoMemory, StaleWord, Abort, Act, Ask, Back, Begin, Commit, Save, Seek, dummy_at, InitSeek, InitLink, SweepOutcome, dummy_node, Sweeps, Seeking, SeekChanges, LinkChanges, Help, Nothing, helps_of, help_in, bucket_at, Serves, Sweeping}
 use Rattle.boost_core.specs.Nodes.{LeavesNodes}
 use Rattle.boost_core.proofs.Spares.{given_for, nodes_then}
 use Rattle.boost_core.proofs.NodeLists.{seen, inserted, replaced, written_seen, seeks_from, clean_seen, sweeps as swept_nodes}
 use Rattle.boost_core.proofs.Outcomes.{is_stale_word}
-use Rattle.boost_core.proofs.SideRefusals.{caller_in, seat_here}
+use Rattle.boost_core.proofs.SideRefusals.{caller_in, stance_here}
 use Rattle.boost_core.proofs.Sides.{changes_last, waiting_op, newest_is}
 use Rattle.map_ops.specs.Buckets.{parent_of}
 use Rattle.boost_core.proofs.Tables.{help_is, links_node}
@@ -145,11 +145,11 @@ taken_back w w' (Restore key was) due is = restored w w' key was (get (now w.his
 taken_back w w' (Relink key was spare) due is = subst (λ (o : Option ℕ). Changes (state_of w) (state_of w') key o (Some was)) (sym due) (linked_node w w' (writes.node_for key was spare) refl is)
 
 module _ (w : World) (tells : Tells w) (c : ℕ) (x : Session) (at : slice_get w.sessions c ≡ Some x) where
-  here : seat_in w.history c ≡ x.seat.seat
-  here = seat_here w tells c x at
+  here : stance_in w.history c ≡ x.stance.stance
+  here = stance_here w tells c x at
 
   log_is : log_of c w.history ≡ changes_of x.log.jobs
-  log_is = (tells.seated c x at).log
+  log_is = (tells.its_stance c x at).log
 
   newest_first : (level : ℕ) (key : ℕ) → key_of_newest (newest_above x.log level) ≡ Some key → newest_key (changes_of x.log.jobs) ≡ key
   newest_first level key is = elim (cases_Bool (nat_lt (kept_at x.log.kept level) (length x.log.jobs))) [
@@ -166,20 +166,20 @@ module _ (w : World) (tells : Tells w) (c : ℕ) (x : Session) (at : slice_get w
   key_is _ key is = absurd (cc (is))
 
   pub next_is : (key : ℕ) → target_of x ≡ Some key → next_key (state_of w) c ≡ key
-  next_is key is = (λ i. next_key_in (here i).phase (log_is i)) ∙ key_is x.seat.seat.phase key is
+  next_is key is = (λ i. next_key_in (here i).phase (log_is i)) ∙ key_is x.stance.stance.phase key is
 
   pub sought_key : (w' : World) (y : Session) → NamesDummies w.table → SeeksIn x w.table y w'.table → SeeksKey (state_of w) (state_of w') (next_key (state_of w) c)
   sought_key w' y home is = subst (SeeksKey (state_of w) (state_of w')) (sym (next_is is.key is.target)) (seeks_key w w' home is.key is.near)
 
-  pub done : (w' : World) (reply : Option ℕ) (y : Session) → DoesIn x w.table reply y w'.table → OpDoesIn (state_of w) (state_of w') (seat_in w.history c).phase
+  pub done : (w' : World) (reply : Option ℕ) (y : Session) → DoesIn x w.table reply y w'.table → OpDoesIn (state_of w) (state_of w') (stance_in w.history c).phase
   done w' reply y is =
-      let waits : Waits x.seat.seat.phase (Some is.pending) x.log.room = subst (λ (o : Option PendingAt). Waits x.seat.seat.phase o x.log.room) is.had (tells.seated c x at).agrees.waits in
-      subst (OpDoesIn (state_of w) (state_of w')) (sym (ap (λ (s : Seat). s.phase) here ∙ waiting_op x.seat.seat.phase is.pending x.log.room waits))
+      let waits : Waits x.stance.stance.phase (Some is.pending) x.log.room = subst (λ (o : Option PendingAt). Waits x.stance.stance.phase o x.log.room) is.had (tells.its_stance c x at).agrees.waits in
+      subst (OpDoesIn (state_of w) (state_of w')) (sym (ap (λ (s : Stance). s.phase) here ∙ waiting_op x.stance.stance.phase is.pending x.log.room waits))
       (operates w w' tells.content is.pending.op is.pending.spare is.writes)
 
   pub undone : (w' : World) (y : Session) → TakesBackIn x w.table y w'.table → BackDoes (state_of w) (state_of w') (log_of c w.history)
   undone w' y is =
-      let due : AreDue (now w.history) (is.job ∷ reverse y.log.jobs) = subst (AreDue (now w.history)) (ap reverse is.jobs ∙ reverse-append y.log.jobs (is.job ∷ [])) (tells.seated c x at).due in
+      let due : AreDue (now w.history) (is.job ∷ reverse y.log.jobs) = subst (AreDue (now w.history)) (ap reverse is.jobs ∙ reverse-append y.log.jobs (is.job ∷ [])) (tells.its_stance c x at).due in
       subst (BackDoes (state_of w) (state_of w')) (sym (log_is ∙ changes_last x.log.jobs y.log.jobs is.job is.jobs))
       (taken_back w w' is.job due.0 is.writes)
 

@@ -1,7 +1,7 @@
 -- Besides its history, the core has counts of transactions and of the entries that are owed. It
 -- also notes which callers have begun a transaction.
 use Rattle.std.proofs.Common.{◌≡◌, ◌+◌, ◌≤◌, ℕ, Bool, true, false, Result, Ok, Err, List, length, arith, is_err, OnOk, OnErr, suc, [], ◌∷◌, Some, refl, sym, ap, ◌∙◌, slice_get, sum_by, ◌<◌, ◌++◌, replicate, Option, None, option_to_list, lt-ltb, append-nil, length-set, get_or-set_same, get_or-set_other, inl, inr}
-use Rattle.boost_core.proofs.Vocabulary.{length-filter, count_by-le-length, Entry, is_began, is_commit, how_many, World, Tells, range_with_len, sum_by-cons, seat_after, own, owed_by, owed, owed_of, or-false, cases_eq, cases_lt, or_right, length-replicate, get_or-replicate, get_or_past, caller_of, Began, has_begun, has_begun-own, has_begun-other}
+use Rattle.boost_core.proofs.Vocabulary.{length-filter, count_by-le-length, Entry, is_began, is_commit, how_many, World, Tells, range_with_len, sum_by-cons, stance_after, own, owed_by, owed, owed_of, or-false, cases_eq, cases_lt, or_right, length-replicate, get_or-replicate, get_or_past, caller_of, Began, has_begun, has_begun-own, has_begun-other}
 use Rattle.boost_core.specs.Begun.{begun_with, AreNoted}
 
 how_many_bound : (test : Entry → Bool) (h : List Entry) → how_many test h ≤ length h
@@ -43,8 +43,8 @@ from_none c = omega arith
 
 pub owed_is : (w : World) → Tells w → owed w.limits.callers w.history ≡ sum_by owed_of w.sessions
 owed_is w tells =
-    ap (λ n. sum_by (λ c. owed_by (seat_after (own c w.history))) (range_with_len 0 n)) (sym tells.count)
-    ∙ sum_of_places (λ c. owed_by (seat_after (own c w.history))) owed_of 0 w.sessions (λ c s at. ap (λ k. owed_by (seat_after (own k w.history))) (from_none c) ∙ ap owed_by (tells.seated c s at).seat)
+    ap (λ n. sum_by (λ c. owed_by (stance_after (own c w.history))) (range_with_len 0 n)) (sym tells.count)
+    ∙ sum_of_places (λ c. owed_by (stance_after (own c w.history))) owed_of 0 w.sessions (λ c s at. ap (λ k. owed_by (stance_after (own k w.history))) (from_none c) ∙ ap owed_by (tells.its_stance c s at).stance)
 
 -- An entry other than `Began` does not change which callers have begun a transaction.
 stays : (c : ℕ) (h : List Entry) (e : Entry) → is_began e ≡ false → has_begun c (h ++ e ∷ []) ≡ has_begun c h

@@ -1,7 +1,7 @@
 -- Shows that a core's invariants hold after one caller's side changes, because the other sides
 -- stay, and each sum over all callers changes by this caller's term.
 use Rattle.std.proofs.Common.{◌≡◌, ◌≢◌, ℕ, ◌+◌, ◌-◌, ◌<◌, ◌≤◌, true, cond, List, [], ◌∷◌, ◌++◌, length, get_or, set, Option, Some, None, refl, sym, ap, subst, ◌∙◌, arith, slice_get, slice_set, sum_by, reverse, length-set, get_or-set_same, get_or-set_other, ◌⊎◌, inl, inr, option_and_then}
-use Rattle.boost_core.proofs.Vocabulary.{cases_eq, slice_get_within, get_or_from_slice_get, slice_get-get_or, Entry, Map, get, caller_of, is_began, is_commit, now, Phase, Closed, LeavingTo, Seat, RoomySeat, row, seat_after, own, log_of, stripe_of, holder_of, IsLevelIn, seat_leveled, MapJob, TableAt, Cursor, content, IsPlaced, largest_of, helps_of, length-map, length-reverse, sum_by-set, get_or-le-sum_by, All-push, is_saved, IsLegal, is_running, how_many-push, Next, seat-own, log_held, held_by, Counts, Session, Owner, holder_by, IsCovered, StaysCovered, Side, side_of, level_of, target_in, target_of, KeepsPlaced, IsSought, IsSoughtAt, Waits, Agrees, change_of, times_kept, changes_of, AreDue, World, Tells, IsSeated, LastPlacedFits, all_times, KeepsBuckets}
+use Rattle.boost_core.proofs.Vocabulary.{cases_eq, slice_get_within, get_or_from_slice_get, slice_get-get_or, Entry, Map, get, caller_of, is_began, is_commit, now, Phase, Closed, LeavingTo, Stance, RoomyStance, row, stance_after, own, log_of, stripe_of, holder_of, IsLevelIn, stance_leveled, MapJob, TableAt, Cursor, content, IsPlaced, largest_of, helps_of, length-map, length-reverse, sum_by-set, get_or-le-sum_by, All-push, is_saved, IsLegal, is_running, how_many-push, Next, stance-own, log_held, held_by, Counts, Session, Owner, holder_by, IsCovered, StaysCovered, Side, side_of, level_of, target_in, target_of, KeepsPlaced, IsSought, IsSoughtAt, Waits, Agrees, change_of, times_kept, changes_of, AreDue, World, Tells, HasStance, LastPlacedFits, all_times, KeepsBuckets}
 use Rattle.txn_words.specs.declared.holder.Holder.{Holder}
 use Rattle.txn_trace.proofs.Entries.{length-log_of}
 use Rattle.boost_core.proofs.Due.{all_of_changes, due_same}
@@ -50,36 +50,36 @@ changes_long : (jobs : List MapJob) → length (changes_of jobs) ≡ length jobs
 changes_long jobs = length-map (reverse jobs) change_of ∙ length-reverse jobs
 
 -- The jobs of a caller stay due if the values of the jobs' keys are unchanged.
-still_due : {holder : Holder} (stripes : ℕ) (h : List Entry) (d : ℕ) (s : Side) (room : ℕ) (current : Map) → IsLegal holder stripes h → IsSeated h d s room
+still_due : {holder : Holder} (stripes : ℕ) (h : List Entry) (d : ℕ) (s : Side) (room : ℕ) (current : Map) → IsLegal holder stripes h → HasStance h d s room
     → ((k : ℕ) → holder_of stripes (stripe_of stripes k) h ≡ Some d → get current k ≡ get (now h) k) → AreDue current (reverse s.jobs)
-still_due stripes h d s room current legal is same = at s.seat.phase refl
+still_due stripes h d s room current legal is same = at s.stance.phase refl
   where
-    keyed : is_running (seat_after (own d h)) ≡ true → AreDue current (reverse s.jobs)
+    keyed : is_running (stance_after (own d h)) ≡ true → AreDue current (reverse s.jobs)
     keyed active =
         let P : ℕ → Type 0 = λ k. holder_of stripes (stripe_of stripes k) h ≡ Some d in
         due_same P (now h) current (reverse s.jobs) same (all_of_changes P (reverse s.jobs) (rw is.log at (log_held stripes h legal d active))) is.due
 
-    at : (q : Phase) → s.seat.phase ≡ q → AreDue current (reverse s.jobs)
+    at : (q : Phase) → s.stance.phase ≡ q → AreDue current (reverse s.jobs)
     at Closed is_q =
-        let none : s.seat.standing ≡ 0 = (rw is_q at (seat_leveled (own d h) s.seat is.seat).within).0 in
+        let none : s.stance.standing ≡ 0 = (rw is_q at (stance_leveled (own d h) s.stance is.stance).within).0 in
         closed_due current (reverse s.jobs) (length-reverse s.jobs ∙ sym is.agrees.standing ∙ none)
-    at q is_q = keyed (rw (is.seat, is_q) refl)
+    at q is_q = keyed (rw (is.stance, is_q) refl)
 
 -- A step that adds an entry. The field `next` describes the history after the entry. After the
--- step, the caller's side is `side`, but without a cursor and still with the seat from before the
+-- step, the caller's side is `side`, but without a cursor and still with the stance from before the
 -- entry. The field `apart` says that the step disturbs no other caller.
 pub record Grows (w : World) (c : ℕ) (x y : Session) (t' : TableAt) (locks' : List (Option ℕ)) (counts' : Counts) (e : Entry) : Type 0 where
-  pub seat : Seat
+  pub stance : Stance
   pub committed : Map
   pub current : Map
   pub holder : ℕ → Option ℕ
   pub side : Side
-  pub becomes : side_of y ≡ record side { seat = x.seat.seat; cursor = None }
-  pub next : Next (holder_by w.words) w.limits.stripes w.history e seat (changes_of side.jobs) committed current holder
+  pub becomes : side_of y ≡ record side { stance = x.stance.stance; cursor = None }
+  pub next : Next (holder_by w.words) w.limits.stripes w.history e stance (changes_of side.jobs) committed current holder
   pub mine : caller_of e ≡ c
-  pub saved : is_saved e ≡ true → 0 < y.seat.room
-  pub kept : seat.kept ≡ 0 ∷ side.kept
-  pub waits : Waits seat.phase side.pending y.log.room
+  pub saved : is_saved e ≡ true → 0 < y.stance.room
+  pub kept : stance.kept ≡ 0 ∷ side.kept
+  pub waits : Waits stance.phase side.pending y.log.room
   pub due : AreDue current (reverse side.jobs)
   pub content : content t' ≡ current
   pub apart : (d : ℕ) → d ≢ c → (k : ℕ) → holder_of w.limits.stripes (stripe_of w.limits.stripes k) w.history ≡ Some d → get current k ≡ get (now w.history) k
@@ -95,10 +95,10 @@ pub record Grows (w : World) (c : ℕ) (x y : Session) (t' : TableAt) (locks' : 
 pub record Stays (w : World) (c : ℕ) (x y : Session) (t' : TableAt) (locks' : List (Option ℕ)) (counts' : Counts) : Type 0 where
   pub cursor : Option Cursor
   pub becomes : side_of y ≡ record (side_of x) { cursor = cursor }
-  pub waits : Waits x.seat.seat.phase x.pending y.log.room
+  pub waits : Waits x.stance.stance.phase x.pending y.log.room
   pub content : content t' ≡ content w.table
   pub placed : KeepsPlaced w.table t'
-  pub sought : IsSoughtAt t' cursor (target_in x.seat.seat.phase y.log)
+  pub sought : IsSoughtAt t' cursor (target_in x.stance.stance.phase y.log)
   pub spares : StaysCovered w.table (times_kept (side_of x)) t' (times_kept (side_of x))
   pub buckets : KeepsBuckets w.table t'
   pub same_locks : locks' ≡ w.locks
@@ -108,9 +108,9 @@ pub record Stays (w : World) (c : ℕ) (x y : Session) (t' : TableAt) (locks' : 
 abbrev pub world_after : World → ℕ → Session → List Entry → Counts → TableAt → List (Option ℕ) → Option Owner → World
 world_after w c z h' counts' t' locks' placed' = record { limits = w.limits; history = h'; counts = counts'; table = t'; sessions = slice_set w.sessions c z; locks = locks'; placed = placed'; words = w.words }
 
--- The session, but with the given seat. This is the caller's seat after the added entry.
-abbrev pub seated_as : Session → RoomySeat → Session
-seated_as y seat = record { seat = seat; pending = y.pending; cursor = y.cursor; log = y.log }
+-- The session, but with the given stance. This is the caller's stance after the added entry.
+abbrev pub stance_as : Session → RoomyStance → Session
+stance_as y stance = record { stance = stance; pending = y.pending; cursor = y.cursor; log = y.log }
 
 level_at : (q : Phase) (standing : ℕ) (kept : List ℕ) → IsLevelIn q standing (0 ∷ kept) → level_of q ≤ length kept
 level_at (LeavingTo level) standing kept is = let below : level < length (0 ∷ kept) = is.0 in omega arith
@@ -120,32 +120,32 @@ module _ (w : World) (tells : Tells w) (c : ℕ) (x y : Session) (at : slice_get
   within : c < length w.sessions
   within = slice_get_within w.sessions c x at
 
-  -- If `Grows` holds for an entry, the caller's seat allows this entry, and the seat after the
-  -- entry is the field `seat` of `Grows`.
-  pub row_there : (e : Entry) (is : Grows w c x y t' locks' counts' e) → row x.seat.seat x.seat.seat.phase e ≡ Some is.seat
+  -- If `Grows` holds for an entry, the caller's stance allows this entry, and the stance after the
+  -- entry is the field `stance` of `Grows`.
+  pub row_there : (e : Entry) (is : Grows w c x y t' locks' counts' e) → row x.stance.stance x.stance.stance.phase e ≡ Some is.stance
   row_there e is =
-      let seat : seat_after (own (caller_of e) w.history) ≡ Some x.seat.seat = ap (λ k. seat_after (own k w.history)) is.mine ∙ (tells.seated c x at).seat in
-      sym (seat-own w.history e ∙ ap (option_and_then (λ (s : Seat). row s s.phase e)) seat) ∙ is.next.seat_is
+      let stance : stance_after (own (caller_of e) w.history) ≡ Some x.stance.stance = ap (λ k. stance_after (own k w.history)) is.mine ∙ (tells.its_stance c x at).stance in
+      sym (stance-own w.history e ∙ ap (option_and_then (λ (s : Stance). row s s.phase e)) stance) ∙ is.next.stance_is
 
   -- The invariants of a core still hold after a step that adds one entry.
-  module _ (e : Entry) (is : Grows w c x y t' locks' counts' e) (seat' : RoomySeat) (entered : seat'.seat ≡ is.seat) (placed' : Option Owner) where
+  module _ (e : Entry) (is : Grows w c x y t' locks' counts' e) (stance' : RoomyStance) (entered : stance'.stance ≡ is.stance) (placed' : Option Owner) where
     abbrev z : Session
-    z = seated_as y seat'
+    z = stance_as y stance'
 
-    side_then : side_of z ≡ record is.side { seat = is.seat; cursor = None }
-    side_then = λ i. record (is.becomes i) { seat = entered i }
+    side_then : side_of z ≡ record is.side { stance = is.stance; cursor = None }
+    side_then = λ i. record (is.becomes i) { stance = entered i }
 
-    agrees_then : Agrees (record is.side { seat = is.seat; cursor = None }) y.log.room
+    agrees_then : Agrees (record is.side { stance = is.stance; cursor = None }) y.log.room
     agrees_then = record {
-      standing = sym (length-log_of (w.history ++ e ∷ []) (caller_of e) is.seat is.next.seat_is) ∙ ap length is.next.log_is ∙ changes_long is.side.jobs;
+      standing = sym (length-log_of (w.history ++ e ∷ []) (caller_of e) is.stance is.next.stance_is) ∙ ap length is.next.log_is ∙ changes_long is.side.jobs;
       kept = is.kept;
       waits = is.waits;
-      level = level_at is.seat.phase is.seat.standing is.side.kept (subst (IsLevelIn is.seat.phase is.seat.standing) is.kept (seat_leveled (own (caller_of e) (w.history ++ e ∷ [])) is.seat is.next.seat_is).within);
+      level = level_at is.stance.phase is.stance.standing is.side.kept (subst (IsLevelIn is.stance.phase is.stance.standing) is.kept (stance_leveled (own (caller_of e) (w.history ++ e ∷ [])) is.stance is.next.stance_is).within);
     }
 
-    seated_then : IsSeated (w.history ++ e ∷ []) c (side_of z) y.log.room
-    seated_then = rw side_then (record {
-      seat = rw is.mine at is.next.seat_is;
+    stance_then : HasStance (w.history ++ e ∷ []) c (side_of z) y.log.room
+    stance_then = rw side_then (record {
+      stance = rw is.mine at is.next.stance_is;
       log = rw is.mine at is.next.log_is;
       due = rw is.next.now_is is.due;
       agrees = agrees_then;
@@ -160,13 +160,13 @@ module _ (w : World) (tells : Tells w) (c : ℕ) (x y : Session) (at : slice_get
       commits = is.commits ∙ ap (λ n. n + cond (is_commit e) 1 0) tells.commits ∙ sym (how_many-push is_commit w.history e);
       content = is.content ∙ sym is.next.now_is;
       count = length-set w.sessions c z ∙ tells.count;
-      seated = λ d s at_d. elim (set_cases w.sessions c d z s within at_d) [
-        | inl here ↦ rw (here.1, here.0) seated_then
+      its_stance = λ d s at_d. elim (set_cases w.sessions c d z s within at_d) [
+        | inl here ↦ rw (here.1, here.0) stance_then
         | inr other ↦
-            let was = tells.seated d s other.1 in
+            let was = tells.its_stance d s other.1 in
             let away : d ≢ caller_of e = λ same. other.0 (same ∙ is.mine) in
             record {
-              seat = is.next.other_seats d away ∙ was.seat;
+              stance = is.next.other_stances d away ∙ was.stance;
               log = is.next.other_logs d away ∙ was.log;
               due = rw is.next.now_is (still_due w.limits.stripes w.history d (side_of s) s.log.room is.current tells.legal was (is.apart d other.0));
               agrees = was.agrees;
@@ -194,20 +194,20 @@ module _ (w : World) (tells : Tells w) (c : ℕ) (x y : Session) (at : slice_get
     commits = ap (λ (n : Counts). n.committed) is.same_counts ∙ tells.commits;
     content = is.content ∙ tells.content;
     count = length-set w.sessions c y ∙ tells.count;
-    seated = λ d s at_d. elim (set_cases w.sessions c d y s within at_d) [
+    its_stance = λ d s at_d. elim (set_cases w.sessions c d y s within at_d) [
       | inl here ↦
-          let was = tells.seated c x at in
-          subst (λ (q : Session). IsSeated w.history d (side_of q) q.log.room) (sym here.1)
-          (subst (λ (side : Side). IsSeated w.history d side y.log.room) (sym is.becomes) (record {
-            seat = ap (λ k. seat_after (own k w.history)) here.0 ∙ was.seat;
+          let was = tells.its_stance c x at in
+          subst (λ (q : Session). HasStance w.history d (side_of q) q.log.room) (sym here.1)
+          (subst (λ (side : Side). HasStance w.history d side y.log.room) (sym is.becomes) (record {
+            stance = ap (λ k. stance_after (own k w.history)) here.0 ∙ was.stance;
             log = ap (λ k. log_of k w.history) here.0 ∙ was.log;
             due = was.due;
             agrees = record { standing = was.agrees.standing; kept = was.agrees.kept; waits = is.waits; level = was.agrees.level };
           }))
-      | inr other ↦ tells.seated d s other.1
+      | inr other ↦ tells.its_stance d s other.1
     ];
     sought = λ d s at_d. elim (set_cases w.sessions c d y s within at_d) [
-      | inl here ↦ subst (IsSought t') (sym here.1) (subst (λ (side : Side). IsSoughtAt t' side.cursor (target_in side.seat.phase y.log)) (sym is.becomes) is.sought)
+      | inl here ↦ subst (IsSought t') (sym here.1) (subst (λ (side : Side). IsSoughtAt t' side.cursor (target_in side.stance.phase y.log)) (sym is.becomes) is.sought)
       | inr other ↦ still_sought_at w.table t' s.cursor (target_of s) is.placed.placed (tells.sought d s other.1)
     ];
     spares = traded w.table t' w.sessions c x y at (subst (λ (side : Side). StaysCovered w.table (times_kept (side_of x)) t' (times_kept side)) (sym is.becomes) is.spares) tells.spares;
@@ -230,7 +230,7 @@ table_stayed w tells t' placed' same keeps spares largest helpers fresh = record
   commits = tells.commits;
   content = same ∙ tells.content;
   count = tells.count;
-  seated = tells.seated;
+  its_stance = tells.its_stance;
   sought = λ d s at_d. still_sought_at w.table t' s.cursor (target_of s) keeps.placed (tells.sought d s at_d);
   spares = spares;
   fresh = fresh;

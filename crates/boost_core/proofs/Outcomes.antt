@@ -1,13 +1,13 @@
 -- Shows that a caller's step is a move that keeps the core's invariants, because it adds no entry
--- (`Stays`), or one that the caller's seat allows and has room for (`Grows`).
+-- (`Stays`), or one that the caller's stance allows and has room for (`Grows`).
 use Rattle.std.proofs.Common.{◌≡◌, ◌⊎◌, inl, inr, ℕ, ◌+◌, ◌-◌, ◌<◌, ◌≤◌, ◌^◌, Bool, true, false, cond, refl, List, [], ◌∷◌, ◌++◌, length, Option, Some, None, sym, ap, subst, ◌∙◌, arith, map, slice_get, slice_set, sum_by, option_to_list, append-nil, option_map, nat_eq, nat_lt}
-use Rattle.boost_core.proofs.Vocabulary.{AllByRecursion, false≢true, slice_get_within, Entry, Step, Answer, Phase, Closed, caller_of, Seat, RoomySeat, row, own, Op, Put, Refusal, IsLevelIn, seat_leveled, TableAt, cursor_changes, table_changes, last_of, linked_of, entries_of, NoMemory, StampsUsedUp, StaleWord, refusal_of, tests_of, owner_of, first_of, owed_in, reserved, Counts, Session, counts_after, placed_then, Move, IsAllowed, State, Claim, Lock, Right, Held, Goes, IsClaim, may_come, reserved_by, Side, owed_of, World, Tells, LastPlacedFits, state_of, session_changes, option_eq, Map, is_began, is_commit, now, holder_of, Waiting, Next, MapJob, PendingAt, holder_by, is_waiting, is_saved, LogAt, kept_at, newest_above, Releases, without_caller, held_by, side_of, target_in, key_of_newest, IsSoughtAt, Waits, changes_of}
+use Rattle.boost_core.proofs.Vocabulary.{AllByRecursion, false≢true, slice_get_within, Entry, Step, Answer, Phase, Closed, caller_of, Stance, RoomyStance, row, own, Op, Put, Refusal, IsLevelIn, stance_leveled, TableAt, cursor_changes, table_changes, last_of, linked_of, entries_of, NoMemory, StampsUsedUp, StaleWord, refusal_of, tests_of, owner_of, first_of, owed_in, reserved, Counts, Session, counts_after, placed_then, Move, IsAllowed, State, Claim, Lock, Right, Held, Goes, IsClaim, may_come, reserved_by, Side, owed_of, World, Tells, LastPlacedFits, state_of, session_changes, option_eq, Map, is_began, is_commit, now, holder_of, Waiting, Next, MapJob, PendingAt, holder_by, is_waiting, is_saved, LogAt, kept_at, newest_above, Releases, without_caller, held_by, side_of, target_in, key_of_newest, IsSoughtAt, Waits, changes_of}
 use Rattle.txn_trace.proofs.Room.{reserved_for, reserved_enough, owed_by-row}
 use Rattle.boost_core.specs.Machine.{after}
 use Rattle.boost_core.specs.Adding.{Enters, CanAdd}
 use Rattle.boost_core.proofs.Named.{grown_small}
 use Rattle.boost_core.proofs.Moves.{lacks, refused, state_is, changes_set, with_nodes}
-use Rattle.boost_core.proofs.OneCaller.{Grows, Stays, world_after, seated_as, row_there, grown, stayed, sum_changed, one_of_sum}
+use Rattle.boost_core.proofs.OneCaller.{Grows, Stays, world_after, stance_as, row_there, grown, stayed, sum_changed, one_of_sum}
 use Rattle.boost_core.proofs.SideRefusals.{no_cursor}
 use Rattle.boost_core.proofs.Spares.{buckets_same}
 use Rattle.txn_words.specs.declared.step.Step.TheVariants as steps
@@ -20,12 +20,12 @@ Comes w c x y t' locks' counts' (e ∷ []) = Grows w c x y t' locks' counts' e
 Comes w c x y t' locks' counts' (e ∷ f ∷ es) = ⊥
 
 -- The outcome of a caller's step. The answer and the new state are what the step's claim allows,
--- and the cursor that was placed last fits. Both hold whatever seat the caller has after the added
+-- and the cursor that was placed last fits. Both hold whatever stance the caller has after the added
 -- entry.
 pub record CalledBy (claim : Claim) (w : World) (c : ℕ) (x : Session) (step : Step) (answer : Answer) (y : Session) (t' : TableAt) (locks' : List (Option ℕ)) : Type 0 where
   pub comes : Comes w c x y t' locks' (counts_after w.counts answer) (entries_of step answer)
-  pub move : (seat' : RoomySeat) → Goes claim (state_of w) step answer (state_of (world_after w c (seated_as y seat') (w.history ++ entries_of step answer) (counts_after w.counts answer) t' locks' (placed_then w.placed step answer)))
-  pub fresh : (seat' : RoomySeat) → LastPlacedFits t' (slice_set w.sessions c (seated_as y seat')) (placed_then w.placed step answer)
+  pub move : (stance' : RoomyStance) → Goes claim (state_of w) step answer (state_of (world_after w c (stance_as y stance') (w.history ++ entries_of step answer) (counts_after w.counts answer) t' locks' (placed_then w.placed step answer)))
+  pub fresh : (stance' : RoomyStance) → LastPlacedFits t' (slice_set w.sessions c (stance_as y stance')) (placed_then w.placed step answer)
 
 -- The outcome of a step whose claim is a lock.
 abbrev pub Called : World → ℕ → Session → Step → Answer → Session → TableAt → List (Option ℕ) → Type 0
@@ -45,14 +45,14 @@ pub entered : (w : World) (c : ℕ) (x y : Session) (t' : TableAt) (locks' : Lis
     → Grows w c x y t' locks' (counts_after w.counts answer) e → Called w c x step answer y t' locks'
 entered w c x y t' locks' step answer e cursors one unplaced after_is dropped allowed linked grows = record {
   comes = subst (Comes w c x y t' locks' (counts_after w.counts answer)) (sym one) grows;
-  move = λ seat'. record {
+  move = λ stance'. record {
     allowed = allowed;
     state = state_is w (w.history ++ entries_of step answer) (w.history ++ entries_of step answer) (counts_after w.counts answer) t' cursors
-        (slice_set w.sessions c (seated_as y seat')) locks' (placed_then w.placed step answer) grows.buckets linked refl
-        (changes_set w.sessions c (seated_as y seat') None (ap (λ (s : Side). option_map cursor_changes s.cursor) grows.becomes) ∙ dropped)
-        ∙ ap (with_nodes t' (slice_set w.sessions c (seated_as y seat'))) (sym after_is);
+        (slice_set w.sessions c (stance_as y stance')) locks' (placed_then w.placed step answer) grows.buckets linked refl
+        (changes_set w.sessions c (stance_as y stance') None (ap (λ (s : Side). option_map cursor_changes s.cursor) grows.becomes) ∙ dropped)
+        ∙ ap (with_nodes t' (slice_set w.sessions c (stance_as y stance'))) (sym after_is);
   };
-  fresh = λ seat'. subst (LastPlacedFits t' (slice_set w.sessions c (seated_as y seat'))) (sym unplaced) tt;
+  fresh = λ stance'. subst (LastPlacedFits t' (slice_set w.sessions c (stance_as y stance'))) (sym unplaced) tt;
 }
 
 -- If two states are equal, a step has the same claim and the same outcome in both.
@@ -184,37 +184,37 @@ module _ (w : World) (tells : Tells w) (c : ℕ) (x y : Session) (at : slice_get
   grows : (e : Entry) → option_to_list (Some e) ≡ entries_of step answer → Grows w c x y t' locks' (counts_after w.counts answer) e
   grows e is = subst (Comes w c x y t' locks' (counts_after w.counts answer)) (sym is) called.comes
 
-  -- The caller's seat allows the added entry, and the claim reserves enough for this entry.
-  row_is : (e : Entry) (is : option_to_list (Some e) ≡ entries_of step answer) → row x.seat.seat x.seat.seat.phase e ≡ Some (grows e is).seat
+  -- The caller's stance allows the added entry, and the claim reserves enough for this entry.
+  row_is : (e : Entry) (is : option_to_list (Some e) ≡ entries_of step answer) → row x.stance.stance x.stance.stance.phase e ≡ Some (grows e is).stance
   row_is e is = row_there w tells c x y at t' locks' (counts_after w.counts answer) e (grows e is)
 
   few : (e : Entry) → option_to_list (Some e) ≡ entries_of step answer → reserved_for e ≤ reserved_by claim step
-  few e is = (subst (AreWithin (reserved_by claim step)) (sym is) (goes_within claim _ _ step answer (called.move y.seat))).0
+  few e is = (subst (AreWithin (reserved_by claim step)) (sym is) (goes_within claim _ _ step answer (called.move y.stance))).0
 
-  same_seat : (o : Option Entry) → option_to_list o ≡ entries_of step answer → y.seat.seat ≡ x.seat.seat
-  same_seat None is = ap (λ (s : Side). s.seat) (stays is).becomes
-  same_seat (Some e) is = ap (λ (s : Side). s.seat) (grows e is).becomes
+  same_stance : (o : Option Entry) → option_to_list o ≡ entries_of step answer → y.stance.stance ≡ x.stance.stance
+  same_stance None is = ap (λ (s : Side). s.stance) (stays is).becomes
+  same_stance (Some e) is = ap (λ (s : Side). s.stance) (grows e is).becomes
 
-  same_owed : (o : Option Entry) → option_to_list o ≡ entries_of step answer → owed_in y.seat.seat.standing y.seat.seat.phase ≡ owed_of x
-  same_owed o is = ap (λ (s : Seat). owed_in s.standing s.phase) (same_seat o is)
+  same_owed : (o : Option Entry) → option_to_list o ≡ entries_of step answer → owed_in y.stance.stance.standing y.stance.stance.phase ≡ owed_of x
+  same_owed o is = ap (λ (s : Stance). owed_in s.standing s.phase) (same_stance o is)
 
   -- The caller of the added entry is one of the core's callers.
   pub called_caller : (o : Option Entry) → option_to_list o ≡ entries_of step answer → (e : Entry) → o ≡ Some e → caller_of e < w.limits.callers
   called_caller o is e some = omega (arith, (grows e (rw some at is)).mine, tells.count, slice_get_within w.sessions c x at)
 
-  -- The entry that the step adds, if it adds one, fits the caller's seat and the history's room.
-  pub can_add : (o : Option Entry) → option_to_list o ≡ entries_of step answer → (len cap owed : ℕ) → owed ≡ sum_by owed_of w.sessions → len + (owed + reserved_by claim step) ≤ cap → cap < 2 ^ 63 → w.limits.callers ≤ 64 → CanAdd y.seat len cap owed o
+  -- The entry that the step adds, if it adds one, fits the caller's stance and the history's room.
+  pub can_add : (o : Option Entry) → option_to_list o ≡ entries_of step answer → (len cap owed : ℕ) → owed ≡ sum_by owed_of w.sessions → len + (owed + reserved_by claim step) ≤ cap → cap < 2 ^ 63 → w.limits.callers ≤ 64 → CanAdd y.stance len cap owed o
   can_add None is len cap owed owes room small few_callers = omega (arith, one_of_sum owed_of w.sessions c x at, same_owed None is)
   can_add (Some e) is len cap owed owes room small few_callers =
       let comes = grows e is in
       let most = one_of_sum owed_of w.sessions c x at in
       let same = same_owed (Some e) is in
-      let takes = owed_by-row x.seat.seat comes.seat e (row_is e is) in
+      let takes = owed_by-row x.stance.stance comes.stance e (row_is e is) in
       let enough = few e is in
       record {
-        next = comes.seat;
-        row_is = ap (λ (s : Seat). row s s.phase e) (same_seat (Some e) is) ∙ row_is e is;
-        standing = omega (arith, ap (λ (s : Seat). s.standing) (same_seat (Some e) is), standing_owed x.seat.seat.phase x.seat.seat.standing x.seat.seat.kept (seat_leveled (own c w.history) x.seat.seat (tells.seated c x at).seat).within);
+        next = comes.stance;
+        row_is = ap (λ (s : Stance). row s s.phase e) (same_stance (Some e) is) ∙ row_is e is;
+        standing = omega (arith, ap (λ (s : Stance). s.standing) (same_stance (Some e) is), standing_owed x.stance.stance.phase x.stance.stance.standing x.stance.stance.kept (stance_leveled (own c w.history) x.stance.stance (tells.its_stance c x at).stance).within);
         saved = comes.saved;
         small = grown_small w.words w.limits.stripes w.limits.callers w.history e tells.callers comes.next.legal (called_caller (Some e) is e refl) few_callers;
         room = omega arith;
@@ -224,33 +224,33 @@ module _ (w : World) (tells : Tells w) (c : ℕ) (x y : Session) (at : slice_get
       }
 
   -- The invariants of the core hold after the step.
-  pub called_tells : (seat' : RoomySeat) (o : Option Entry) → option_to_list o ≡ entries_of step answer → Enters y.seat (option_to_list o) seat' → (h' : List Entry) → h' ≡ w.history ++ option_to_list o
-      → Tells (world_after w c (seated_as y seat') h' (counts_after w.counts answer) t' locks' (placed_then w.placed step answer))
-  called_tells seat' None is entered h' pushed =
-      rw (pushed, append-nil w.history, entered) (stayed w tells c x y at t' locks' (counts_after w.counts answer) (stays is) (placed_then w.placed step answer) (called.fresh y.seat))
-  called_tells seat' (Some e) is entered h' pushed =
-      let both : Some seat'.seat ≡ Some (grows e is).seat = sym entered ∙ ap (λ (s : Seat). row s s.phase e) (same_seat (Some e) is) ∙ row_is e is in
-      rw pushed (grown w tells c x y at t' locks' (counts_after w.counts answer) e (grows e is) seat' (cc both) (placed_then w.placed step answer) (called.fresh seat'))
+  pub called_tells : (stance' : RoomyStance) (o : Option Entry) → option_to_list o ≡ entries_of step answer → Enters y.stance (option_to_list o) stance' → (h' : List Entry) → h' ≡ w.history ++ option_to_list o
+      → Tells (world_after w c (stance_as y stance') h' (counts_after w.counts answer) t' locks' (placed_then w.placed step answer))
+  called_tells stance' None is entered h' pushed =
+      rw (pushed, append-nil w.history, entered) (stayed w tells c x y at t' locks' (counts_after w.counts answer) (stays is) (placed_then w.placed step answer) (called.fresh y.stance))
+  called_tells stance' (Some e) is entered h' pushed =
+      let both : Some stance'.stance ≡ Some (grows e is).stance = sym entered ∙ ap (λ (s : Stance). row s s.phase e) (same_stance (Some e) is) ∙ row_is e is in
+      rw pushed (grown w tells c x y at t' locks' (counts_after w.counts answer) e (grows e is) stance' (cc both) (placed_then w.placed step answer) (called.fresh stance'))
 
   -- If the number of owed entries is updated for the step's caller alone, it is still the sum over
   -- all callers. The history has room for these entries (`called_room`).
-  pub called_owes : (seat' : RoomySeat) (o : Option Entry) → option_to_list o ≡ entries_of step answer → (owed owed' : ℕ) → owed ≡ sum_by owed_of w.sessions
-      → owed' ≡ owed - owed_in y.seat.seat.standing y.seat.seat.phase + owed_in seat'.seat.standing seat'.seat.phase → owed' ≡ sum_by owed_of (slice_set w.sessions c (seated_as y seat'))
-  called_owes seat' o is owed owed' owes after =
-      omega (arith, owes, after, sum_changed owed_of w.sessions c x (seated_as y seat') at, one_of_sum owed_of w.sessions c x at, same_owed o is)
+  pub called_owes : (stance' : RoomyStance) (o : Option Entry) → option_to_list o ≡ entries_of step answer → (owed owed' : ℕ) → owed ≡ sum_by owed_of w.sessions
+      → owed' ≡ owed - owed_in y.stance.stance.standing y.stance.stance.phase + owed_in stance'.stance.standing stance'.stance.phase → owed' ≡ sum_by owed_of (slice_set w.sessions c (stance_as y stance'))
+  called_owes stance' o is owed owed' owes after =
+      omega (arith, owes, after, sum_changed owed_of w.sessions c x (stance_as y stance') at, one_of_sum owed_of w.sessions c x at, same_owed o is)
 
-  pub called_room : (seat' : RoomySeat) (o : Option Entry) → option_to_list o ≡ entries_of step answer → Enters y.seat (option_to_list o) seat' → (len cap : ℕ) → len + (sum_by owed_of w.sessions + reserved_by claim step) ≤ cap
-      → len + length (option_to_list o) + sum_by owed_of (slice_set w.sessions c (seated_as y seat')) ≤ cap
-  called_room seat' None is entered len cap room =
-      let same : owed_of (seated_as y seat') ≡ owed_of x = ap (λ (s : RoomySeat). owed_in s.seat.standing s.seat.phase) entered ∙ same_owed None is in
-      omega (arith, room, same, sum_changed owed_of w.sessions c x (seated_as y seat') at)
-  called_room seat' (Some e) is entered len cap room =
-      omega (arith, room, sum_changed owed_of w.sessions c x (seated_as y seat') at, owed_by-row y.seat.seat seat'.seat e entered, same_owed (Some e) is, few e is)
+  pub called_room : (stance' : RoomyStance) (o : Option Entry) → option_to_list o ≡ entries_of step answer → Enters y.stance (option_to_list o) stance' → (len cap : ℕ) → len + (sum_by owed_of w.sessions + reserved_by claim step) ≤ cap
+      → len + length (option_to_list o) + sum_by owed_of (slice_set w.sessions c (stance_as y stance')) ≤ cap
+  called_room stance' None is entered len cap room =
+      let same : owed_of (stance_as y stance') ≡ owed_of x = ap (λ (s : RoomyStance). owed_in s.stance.standing s.stance.phase) entered ∙ same_owed None is in
+      omega (arith, room, same, sum_changed owed_of w.sessions c x (stance_as y stance') at)
+  called_room stance' (Some e) is entered len cap room =
+      omega (arith, room, sum_changed owed_of w.sessions c x (stance_as y stance') at, owed_by-row y.stance.stance stance'.stance e entered, same_owed (Some e) is, few e is)
 
   -- The answer and the state after the step are what the claim allows: `Goes` holds.
-  pub called_move : (seat' : RoomySeat) (o : Option Entry) → option_to_list o ≡ entries_of step answer → (h' : List Entry) → h' ≡ w.history ++ option_to_list o
-      → Goes claim (state_of w) step answer (state_of (world_after w c (seated_as y seat') h' (counts_after w.counts answer) t' locks' (placed_then w.placed step answer)))
-  called_move seat' o is h' pushed = rw (pushed, is) (called.move seat')
+  pub called_move : (stance' : RoomyStance) (o : Option Entry) → option_to_list o ≡ entries_of step answer → (h' : List Entry) → h' ≡ w.history ++ option_to_list o
+      → Goes claim (state_of w) step answer (state_of (world_after w c (stance_as y stance') h' (counts_after w.counts answer) t' locks' (placed_then w.placed step answer)))
+  called_move stance' o is h' pushed = rw (pushed, is) (called.move stance')
 
 -- After caller c ends a transaction, the locks and the history agree on a stripe's holder. A stripe
 -- that c held has no holder, and any other stripe has its old holder.
@@ -264,12 +264,12 @@ no_newest log n none = ap key_of_newest (ap (λ (more : Bool). cond more (slice_
 
 module _ (w : World) (tells : Tells w) (c : ℕ) (x : Session) (at : slice_get w.sessions c ≡ Some x) where
   -- If the caller acts on no key, it has no cursor.
-  pub idle_cursor : (q : Phase) → x.seat.seat.phase ≡ q → target_in q x.log ≡ None → x.cursor ≡ None
+  pub idle_cursor : (q : Phase) → x.stance.stance.phase ≡ q → target_in q x.log ≡ None → x.cursor ≡ None
   idle_cursor q is none = no_cursor w.table x.cursor (subst (IsSoughtAt w.table x.cursor) (ap (λ p. target_in p x.log) is ∙ none) (tells.sought c x at))
 
   -- If the caller's phase is not `Waiting`, no operation waits.
-  pub nothing_waits : (q : Phase) → x.seat.seat.phase ≡ q → is_waiting q ≡ false → x.pending ≡ None
-  nothing_waits q is rests = none_then q rests x.pending (subst (λ p. Waits p x.pending x.log.room) is (tells.seated c x at).agrees.waits)
+  pub nothing_waits : (q : Phase) → x.stance.stance.phase ≡ q → is_waiting q ≡ false → x.pending ≡ None
+  nothing_waits q is rests = none_then q rests x.pending (subst (λ p. Waits p x.pending x.log.room) is (tells.its_stance c x at).agrees.waits)
     where
       none_then : (q : Phase) → is_waiting q ≡ false → (o : Option PendingAt) → Waits q o x.log.room → o ≡ None
       none_then q rests None waits = refl
@@ -285,12 +285,12 @@ module _ (w : World) (tells : Tells w) (c : ℕ) (x : Session) (at : slice_get w
 
   -- `Grows` holds for a step that adds an entry and changes only the caller's savepoints and room.
   -- It is assumed that no operation waits and that the caller has no cursor.
-  pub quiet : (e : Entry) (y : Session) (seat : Seat) (kept : List ℕ) (log : List (ℕ × Option ℕ)) (committed : Map) (holder : ℕ → Option ℕ) (locks' : List (Option ℕ)) (counts' : Counts) → Next (holder_by w.words) w.limits.stripes w.history e seat log committed (now w.history) holder → log ≡ changes_of x.log.jobs
-      → caller_of e ≡ c → (is_saved e ≡ true → 0 < y.seat.room) → seat.kept ≡ 0 ∷ kept → is_waiting seat.phase ≡ false → x.pending ≡ None → x.cursor ≡ None → side_of y ≡ record (side_of x) { kept = kept }
+  pub quiet : (e : Entry) (y : Session) (stance : Stance) (kept : List ℕ) (log : List (ℕ × Option ℕ)) (committed : Map) (holder : ℕ → Option ℕ) (locks' : List (Option ℕ)) (counts' : Counts) → Next (holder_by w.words) w.limits.stripes w.history e stance log committed (now w.history) holder → log ≡ changes_of x.log.jobs
+      → caller_of e ≡ c → (is_saved e ≡ true → 0 < y.stance.room) → stance.kept ≡ 0 ∷ kept → is_waiting stance.phase ≡ false → x.pending ≡ None → x.cursor ≡ None → side_of y ≡ record (side_of x) { kept = kept }
       → counts'.began ≡ w.counts.began + cond (is_began e) 1 0 → counts'.committed ≡ w.counts.committed + cond (is_commit e) 1 0 → length locks' ≡ length w.locks → ((s : ℕ) → s < w.limits.stripes → held_by locks' s ≡ holder s)
       → Grows w c x y w.table locks' counts' e
-  quiet e y seat kept log committed holder locks' counts' next log_is mine saved kept_is rests nothing idle becomes begins commits long holders = record {
-    seat = seat;
+  quiet e y stance kept log committed holder locks' counts' next log_is mine saved kept_is rests nothing idle becomes begins commits long holders = record {
+    stance = stance;
     committed = committed;
     current = now w.history;
     holder = holder;
@@ -300,8 +300,8 @@ module _ (w : World) (tells : Tells w) (c : ℕ) (x : Session) (at : slice_get w
     mine = mine;
     saved = saved;
     kept = kept_is;
-    waits = rw nothing (rest_waits seat.phase rests y.log.room);
-    due = (tells.seated c x at).due;
+    waits = rw nothing (rest_waits stance.phase rests y.log.room);
+    due = (tells.its_stance c x at).due;
     content = tells.content;
     apart = λ d other k held. refl;
     placed = record { placed = λ cursor key is. is; sound = λ sound. sound };
@@ -313,5 +313,5 @@ module _ (w : World) (tells : Tells w) (c : ℕ) (x : Session) (at : slice_get w
     holders = holders;
   }
 
-  pub level_in : (q : Phase) → x.seat.seat.phase ≡ q → IsLevelIn q x.seat.seat.standing x.seat.seat.kept
-  level_in q is = subst (λ (p : Phase). IsLevelIn p x.seat.seat.standing x.seat.seat.kept) is (seat_leveled (own c w.history) x.seat.seat (tells.seated c x at).seat).within
+  pub level_in : (q : Phase) → x.stance.stance.phase ≡ q → IsLevelIn q x.stance.stance.standing x.stance.stance.kept
+  level_in q is = subst (λ (p : Phase). IsLevelIn p x.stance.stance.standing x.stance.stance.kept) is (stance_leveled (own c w.history) x.stance.stance (tells.its_stance c x at).stance).within

@@ -1,7 +1,7 @@
 -- Shows that a caller's side refuses a step exactly if the machine does, because both test the
--- caller's number, its seat and its cursor, in this order.
+-- caller's number, its stance and its cursor, in this order.
 use Rattle.std.proofs.Common.{◌≡◌, ℕ, ◌<◌, Bool, true, false, cond, List, [], ◌∷◌, ◌++◌, length, get_or, Option, Some, None, is_some, refl, sym, ap, ◌∙◌, arith, nat_le, not, map, slice_get, unwrap_or, leb-false, option_map, length-set, slice_set, get_or-set_same}
-use Rattle.boost_core.proofs.Vocabulary.{lt-leb, not-false, false≢true, slice_get-map, slice_get-get_or, Refusal, Step, Phase, Closed, Opened, Waiting, Seat, closed_seat, TableAt, Cursor, cursor_changes, NoSuchCaller, Unplaced, Begin, Act, Back, Commit, Abort, Session, State, Owner, Caller, seat_in, caller_changes, owner_of, is_closed, is_waiting, is_leaving, tests_in, tests_of, first_of, refusal_in, refusal_of, lacks_in, lacks_cursor, IsSoughtAt, World, Tells, state_of, session_changes}
+use Rattle.boost_core.proofs.Vocabulary.{lt-leb, not-false, false≢true, slice_get-map, slice_get-get_or, Refusal, Step, Phase, Closed, Opened, Waiting, Stance, closed_stance, TableAt, Cursor, cursor_changes, NoSuchCaller, Unplaced, Begin, Act, Back, Commit, Abort, Session, State, Owner, Caller, stance_in, caller_changes, owner_of, is_closed, is_waiting, is_leaving, tests_in, tests_of, first_of, refusal_in, refusal_of, lacks_in, lacks_cursor, IsSoughtAt, World, Tells, state_of, session_changes}
 
 -- The first option if it is a refusal, or else the second option.
 abbrev pub or_else : Option Refusal → Option Refusal → Option Refusal
@@ -29,33 +29,33 @@ abbrev pub caller_in : Option Owner → ℕ
 caller_in (Some (Caller c)) = c
 caller_in _ = 0
 
-lacks_is : (state : State) (c : ℕ) (step : Step) → owner_of step ≡ Some (Caller c) → lacks_cursor state step ≡ lacks_in (seat_in state.history c) (is_some (caller_changes state.cursors c)) step
+lacks_is : (state : State) (c : ℕ) (step : Step) → owner_of step ≡ Some (Caller c) → lacks_cursor state step ≡ lacks_in (stance_in state.history c) (is_some (caller_changes state.cursors c)) step
 lacks_is state c (Act d) owner =
-    ap (λ (k : ℕ). lacks_in (seat_in state.history k) (is_some (caller_changes state.cursors k)) (Act d)) (ap caller_in owner)
+    ap (λ (k : ℕ). lacks_in (stance_in state.history k) (is_some (caller_changes state.cursors k)) (Act d)) (ap caller_in owner)
 lacks_is state c _ owner = refl
 
--- A caller's step is refused if the caller's number is too high, if the caller's seat refuses the
+-- A caller's step is refused if the caller's number is too high, if the caller's stance refuses the
 -- step, or if a cursor is missing. The first of these three that applies gives the refusal.
 pub refusal_parts : (state : State) (c : ℕ) (step : Step) → owner_of step ≡ Some (Caller c)
-    → refusal_of state step ≡ cond (nat_le state.limits.callers c) (Some NoSuchCaller) (or_else (refusal_in state.limits.half (seat_in state.history c) step) (cond (lacks_in (seat_in state.history c) (is_some (caller_changes state.cursors c)) step) (Some Unplaced) None))
+    → refusal_of state step ≡ cond (nat_le state.limits.callers c) (Some NoSuchCaller) (or_else (refusal_in state.limits.half (stance_in state.history c) step) (cond (lacks_in (stance_in state.history c) (is_some (caller_changes state.cursors c)) step) (Some Unplaced) None))
 refusal_parts state c step owner =
     ap (λ o. first_of (tests_of state o step)) owner
     ∙ ap (cond (nat_le state.limits.callers c) (Some NoSuchCaller))
-    (first_of-append (tests_in state.limits.half (seat_in state.history c) step) ((lacks_cursor state step, Unplaced) ∷ [])
-    ∙ ap (λ b. or_else (refusal_in state.limits.half (seat_in state.history c) step) (cond b (Some Unplaced) None)) (lacks_is state c step owner))
+    (first_of-append (tests_in state.limits.half (stance_in state.history c) step) ((lacks_cursor state step, Unplaced) ∷ [])
+    ∙ ap (λ b. or_else (refusal_in state.limits.half (stance_in state.history c) step) (cond b (Some Unplaced) None)) (lacks_is state c step owner))
 
--- Nothing refuses the step: the caller's number is in range, the caller's seat allows the step, and
+-- Nothing refuses the step: the caller's number is in range, the caller's stance allows the step, and
 -- no cursor is missing.
 pub record Free (state : State) (c : ℕ) (step : Step) : Type 0 where
   pub within : nat_le state.limits.callers c ≡ false
-  pub seat : refusal_in state.limits.half (seat_in state.history c) step ≡ None
-  pub cursor : lacks_in (seat_in state.history c) (is_some (caller_changes state.cursors c)) step ≡ false
+  pub stance : refusal_in state.limits.half (stance_in state.history c) step ≡ None
+  pub cursor : lacks_in (stance_in state.history c) (is_some (caller_changes state.cursors c)) step ≡ false
 
 pub free : (state : State) (c : ℕ) (step : Step) → owner_of step ≡ Some (Caller c) → refusal_of state step ≡ None → Free state c step
 free state c step owner none =
     let first = first_none (nat_le state.limits.callers c) NoSuchCaller _ (sym (refusal_parts state c step owner) ∙ none) in
-    let rest = or_else_none (refusal_in state.limits.half (seat_in state.history c) step) _ first.1 in
-    record { within = first.0; seat = rest.0; cursor = (first_none _ Unplaced None rest.1).0 }
+    let rest = or_else_none (refusal_in state.limits.half (stance_in state.history c) step) _ first.1 in
+    record { within = first.0; stance = rest.0; cursor = (first_none _ Unplaced None rest.1).0 }
 
 pub closed_is : (q : Phase) → is_closed q ≡ true → q ≡ Closed
 closed_is Closed is = refl
@@ -67,25 +67,25 @@ opened_is Opened closed leaving waiting = refl
 opened_is (Waiting op) closed leaving waiting = absurd (false≢true (sym waiting))
 opened_is _ closed leaving waiting = absurd (false≢true (sym leaving))
 
-pub begin_closed : (half : Bool) (s : Seat) (c : ℕ) → refusal_in half s (Begin c) ≡ None → s.phase ≡ Closed
+pub begin_closed : (half : Bool) (s : Stance) (c : ℕ) → refusal_in half s (Begin c) ≡ None → s.phase ≡ Closed
 begin_closed half s c none =
     let first = first_none (is_leaving s.phase) _ _ none in
     let second = first_none (not (is_closed s.phase)) _ _ first.1 in
     closed_is s.phase (not-false (is_closed s.phase) second.0)
 
--- Suppose that the first three tests refuse a seat whose phase is closed, leaving or waiting. If no
--- test refuses the seat, its phase is `Opened`, and no later test refuses it.
-pub three_tests : (s : Seat) (a b c : Refusal) (rest : Option Refusal) → cond (is_closed s.phase) (Some a) (cond (is_leaving s.phase) (Some b) (cond (is_waiting s.phase) (Some c) rest)) ≡ None → (s.phase ≡ Opened) × (rest ≡ None)
+-- Suppose that the first three tests refuse a stance whose phase is closed, leaving or waiting. If no
+-- test refuses the stance, its phase is `Opened`, and no later test refuses it.
+pub three_tests : (s : Stance) (a b c : Refusal) (rest : Option Refusal) → cond (is_closed s.phase) (Some a) (cond (is_leaving s.phase) (Some b) (cond (is_waiting s.phase) (Some c) rest)) ≡ None → (s.phase ≡ Opened) × (rest ≡ None)
 three_tests s a b c rest none =
     let first = first_none (is_closed s.phase) a _ none in
     let second = first_none (is_leaving s.phase) b _ first.1 in
     let third = first_none (is_waiting s.phase) c rest second.1 in
     (opened_is s.phase first.0 second.0 third.0, third.1)
 
-pub commit_open : (half : Bool) (s : Seat) (c : ℕ) → refusal_in half s (Commit c) ≡ None → s.phase ≡ Opened
+pub commit_open : (half : Bool) (s : Stance) (c : ℕ) → refusal_in half s (Commit c) ≡ None → s.phase ≡ Opened
 commit_open half s c none = (three_tests s _ _ _ _ none).0
 
-pub back_open : (half : Bool) (s : Seat) (c n : ℕ) → refusal_in half s (Back c n) ≡ None → (s.phase ≡ Opened) × (nat_le (length s.kept) n ≡ false)
+pub back_open : (half : Bool) (s : Stance) (c n : ℕ) → refusal_in half s (Back c n) ≡ None → (s.phase ≡ Opened) × (nat_le (length s.kept) n ≡ false)
 back_open half s c n none =
     let open_so = three_tests s _ _ _ _ none in
     (open_so.0, (first_none _ _ None open_so.1).0)
@@ -101,10 +101,10 @@ noted_some None = refl
 noted_some (Some cursor) = refl
 
 module _ (w : World) (tells : Tells w) (c : ℕ) (x : Session) (at : slice_get w.sessions c ≡ Some x) where
-  -- The machine's state has the seat of the caller's session and the change number of the caller's
+  -- The machine's state has the stance of the caller's session and the change number of the caller's
   -- cursor.
-  pub seat_here : seat_in w.history c ≡ x.seat.seat
-  seat_here = ap (λ o. unwrap_or o closed_seat) (tells.seated c x at).seat
+  pub stance_here : stance_in w.history c ≡ x.stance.stance
+  stance_here = ap (λ o. unwrap_or o closed_stance) (tells.its_stance c x at).stance
 
   pub changes_here : caller_changes (map session_changes w.sessions) c ≡ session_changes x
   changes_here = ap (λ o. unwrap_or o None) (slice_get-map session_changes w.sessions c ∙ ap (option_map session_changes) at)
@@ -113,20 +113,20 @@ module _ (w : World) (tells : Tells w) (c : ℕ) (x : Session) (at : slice_get w
   changes_is_some = ap is_some changes_here ∙ noted_some x.cursor
 
   -- If the caller's number is in range, a step of the caller is refused in two cases: the caller's
-  -- seat refuses it, or a cursor is missing.
+  -- stance refuses it, or a cursor is missing.
   pub refusal_here : (step : Step) → owner_of step ≡ Some (Caller c) → nat_le w.limits.callers c ≡ false
-      → refusal_of (state_of w) step ≡ or_else (refusal_in w.limits.half x.seat.seat step) (cond (lacks_in x.seat.seat (is_some x.cursor) step) (Some Unplaced) None)
+      → refusal_of (state_of w) step ≡ or_else (refusal_in w.limits.half x.stance.stance step) (cond (lacks_in x.stance.stance (is_some x.cursor) step) (Some Unplaced) None)
   refusal_here step owner within =
       refusal_parts (state_of w) c step owner
-      ∙ ap (λ b. cond b (Some NoSuchCaller) (or_else (refusal_in w.limits.half (seat_in w.history c) step) (cond (lacks_in (seat_in w.history c) (is_some (caller_changes (map session_changes w.sessions) c)) step) (Some Unplaced) None))) within
-      ∙ (λ i. or_else (refusal_in w.limits.half (seat_here i) step) (cond (lacks_in (seat_here i) (changes_is_some i) step) (Some Unplaced) None))
+      ∙ ap (λ b. cond b (Some NoSuchCaller) (or_else (refusal_in w.limits.half (stance_in w.history c) step) (cond (lacks_in (stance_in w.history c) (is_some (caller_changes (map session_changes w.sessions) c)) step) (Some Unplaced) None))) within
+      ∙ (λ i. or_else (refusal_in w.limits.half (stance_here i) step) (cond (lacks_in (stance_here i) (changes_is_some i) step) (Some Unplaced) None))
 
-  -- If nothing refuses a step, the caller's seat does not refuse it, and no cursor is missing.
-  pub seat_free : (step : Step) → owner_of step ≡ Some (Caller c) → refusal_of (state_of w) step ≡ None → refusal_in w.limits.half x.seat.seat step ≡ None
-  seat_free step owner none = ap (λ s. refusal_in w.limits.half s step) (sym seat_here) ∙ (free (state_of w) c step owner none).seat
+  -- If nothing refuses a step, the caller's stance does not refuse it, and no cursor is missing.
+  pub stance_free : (step : Step) → owner_of step ≡ Some (Caller c) → refusal_of (state_of w) step ≡ None → refusal_in w.limits.half x.stance.stance step ≡ None
+  stance_free step owner none = ap (λ s. refusal_in w.limits.half s step) (sym stance_here) ∙ (free (state_of w) c step owner none).stance
 
-  pub cursor_free : (step : Step) → owner_of step ≡ Some (Caller c) → refusal_of (state_of w) step ≡ None → lacks_in x.seat.seat (is_some x.cursor) step ≡ false
-  cursor_free step owner none = (λ i. lacks_in (sym seat_here i) (sym changes_is_some i) step) ∙ (free (state_of w) c step owner none).cursor
+  pub cursor_free : (step : Step) → owner_of step ≡ Some (Caller c) → refusal_of (state_of w) step ≡ None → lacks_in x.stance.stance (is_some x.cursor) step ≡ false
+  cursor_free step owner none = (λ i. lacks_in (sym stance_here i) (sym changes_is_some i) step) ∙ (free (state_of w) c step owner none).cursor
 
 -- If the first option is a refusal, `or_else` returns it.
 pub or_else_some : (one other : Option Refusal) → is_some one ≡ true → or_else one other ≡ one
@@ -159,14 +159,14 @@ free_at w old tells view c step owner r says none x is =
     (nothing, index_at w.sessions c x (omega (arith, tells.count, leb-false w.limits.callers c (free (state_of w) c step owner nothing).within)) is)
 
 -- Let a state be equal to the state of `w`. In this state, a caller's step is refused in two cases:
--- the caller's seat refuses it, or a cursor is missing.
+-- the caller's stance refuses it, or a cursor is missing.
 pub refusal_at : (w : World) (old : State) → Tells w → state_of w ≡ old → (c : ℕ) (x : Session) → x ≡ get_or w.sessions c x → (step : Step) → owner_of step ≡ Some (Caller c) → c < w.limits.callers
-    → refusal_of old step ≡ or_else (refusal_in w.limits.half x.seat.seat step) (cond (lacks_in x.seat.seat (is_some x.cursor) step) (Some Unplaced) None)
+    → refusal_of old step ≡ or_else (refusal_in w.limits.half x.stance.stance step) (cond (lacks_in x.stance.stance (is_some x.cursor) step) (Some Unplaced) None)
 refusal_at w old tells view c x is step owner within =
     ap (λ (s : State). refusal_of s step) (sym view)
     ∙ refusal_here w tells c x (index_at w.sessions c x (omega (arith, tells.count, within)) is) step owner (le_false w.limits.callers c within)
 
-pub abort_runs : (half : Bool) (s : Seat) (c : ℕ) → refusal_in half s (Abort c) ≡ None → (is_closed s.phase ≡ false) × (is_leaving s.phase ≡ false)
+pub abort_runs : (half : Bool) (s : Stance) (c : ℕ) → refusal_in half s (Abort c) ≡ None → (is_closed s.phase ≡ false) × (is_leaving s.phase ≡ false)
 abort_runs half s c none =
     let first = first_none (is_closed s.phase) _ _ none in
     (first.0, (first_none (is_leaving s.phase) _ None first.1).0)

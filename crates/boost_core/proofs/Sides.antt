@@ -1,7 +1,7 @@
 -- The steps that a caller may take if its side fits the table.
 use Rattle.std.proofs.Common.{◌≡◌, ℕ, ◌-◌, ◌<◌, ◌&&◌, Bool, true, false, List, [], ◌∷◌, ◌++◌, length, Option, Some, is_some, refl, sym, ap, subst, ◌∙◌, arith, slice_get, map, reverse, nat_lt, not, ltb-true}
 use Rattle.boost_core.proofs.Vocabulary.{not-false, or_right, false≢true, slice_get-get_or, Phase, Waiting, LeavingTo, LeavingToEnd, MapJob, PendingAt, TableAt, Cursor, content, reverse-append, length_push, get_or_push, is_waiting, has_job, has_target, LogAt, kept_at, newest_above, Session, level_of, Waits, key_of_newest, target_in, target_of, change_of, changes_of, AreDue, IsSoughtAt, GoesWith, CanUndo}
-use Rattle.txn_trace.proofs.Seated.{the_some}
+use Rattle.txn_trace.proofs.StanceRuns.{the_some}
 use Rattle.boost_core.proofs.Spares.{newest_owned}
 
 pub record Last (jobs : List MapJob) : Type 0 where
@@ -56,29 +56,29 @@ and_true : (a b : Bool) → (a && not b) ≡ false → a ≡ true → b ≡ true
 and_true a b is both = not-false b (ap (λ v. v && not b) (sym both) ∙ is)
 
 module _ (x : Session) (t : TableAt) (goes : GoesWith x t) where
-  -- The seat has the same savepoints and the same number of standing changes as the log.
-  pub seat_is : x.seat.seat ≡ record { phase = x.seat.seat.phase; standing = length x.log.jobs; kept = 0 ∷ x.log.kept }
-  seat_is = λ i. record { phase = x.seat.seat.phase; standing = goes.agrees.standing i; kept = goes.agrees.kept i }
+  -- The stance has the same savepoints and the same number of standing changes as the log.
+  pub stance_is : x.stance.stance ≡ record { phase = x.stance.stance.phase; standing = length x.log.jobs; kept = 0 ∷ x.log.kept }
+  stance_is = λ i. record { phase = x.stance.stance.phase; standing = goes.agrees.standing i; kept = goes.agrees.kept i }
 
-  module _ (placed : (has_target x.seat.seat && not (is_some x.cursor)) ≡ false) where
-    cursor_there : has_target x.seat.seat ≡ true → (cursor : Cursor) × (x.cursor ≡ Some cursor)
-    cursor_there target = the_some x.cursor (and_true (has_target x.seat.seat) (is_some x.cursor) placed target)
+  module _ (placed : (has_target x.stance.stance && not (is_some x.cursor)) ≡ false) where
+    cursor_there : has_target x.stance.stance ≡ true → (cursor : Cursor) × (x.cursor ≡ Some cursor)
+    cursor_there target = the_some x.cursor (and_true (has_target x.stance.stance) (is_some x.cursor) placed target)
 
-    -- If the caller's seat has a change to take back, the newest change can be taken back
+    -- If the caller's stance has a change to take back, the newest change can be taken back
     -- (`CanUndo`).
-    pub can_undo : has_job x.seat.seat ≡ true → CanUndo x t
+    pub can_undo : has_job x.stance.stance ≡ true → CanUndo x t
     can_undo has =
-        let gone = going x.seat.seat.phase (length x.log.jobs) x.log.kept (ap has_job (sym seat_is) ∙ has) in
-        let newest = newest_is x.log (level_of x.seat.seat.phase) gone.1 in
+        let gone = going x.stance.stance.phase (length x.log.jobs) x.log.kept (ap has_job (sym stance_is) ∙ has) in
+        let newest = newest_is x.log (level_of x.stance.stance.phase) gone.1 in
         let last = newest.0 in
-        let cursor = cursor_there (or_right (is_waiting x.seat.seat.phase) (has_job x.seat.seat) has) in
+        let cursor = cursor_there (or_right (is_waiting x.stance.stance.phase) (has_job x.stance.stance) has) in
         record {
           level = goes.agrees.level;
           job = last.job;
           cursor = cursor.0;
           newest = newest.1;
           had = cursor.1;
-          placed = subst (IsSoughtAt t (Some cursor.0)) (going_target x.seat.seat.phase x.log gone.0 ∙ ap key_of_newest newest.1) (subst (λ (o : Option Cursor). IsSoughtAt t o (target_of x)) cursor.1 goes.sought);
+          placed = subst (IsSoughtAt t (Some cursor.0)) (going_target x.stance.stance.phase x.log gone.0 ∙ ap key_of_newest newest.1) (subst (λ (o : Option Cursor). IsSoughtAt t o (target_of x)) cursor.1 goes.sought);
           due = (subst (λ (js : List MapJob). AreDue (content t) js) (ap reverse last.is ∙ reverse-append last.front (last.job ∷ [])) goes.due).0;
           owned = newest_owned t x.log.jobs last.front last.job last.is goes.settles.0 goes.settles.1;
         }

@@ -1,6 +1,6 @@
 -- A core whose history is empty.
 use Rattle.std.proofs.Common.{◌≡◌, ℕ, ◌+◌, ◌<◌, ◌≤◌, ◌==◌, ◌∷◌, Bool, true, List, [], length, map, replicate, Option, Some, None, zero, suc, refl, sym, ap, ◌∙◌, arith, slice_get, sum_by, eq-eqb, eqb-true, inl, inr, All, option_map, ◌*◌, ◌/◌, ◌%◌, ◌^◌, pow-suc, count_ones}
-use Rattle.boost_core.proofs.Vocabulary.{and_parts, cases_Bool, cases_lt, slice_get_within, get_or_from_slice_get, caller_of, is_power_of_two, length-replicate, get_or-replicate, get_or_past, All-nil, sum_by-cons, held_by, Sizes, are_limits, owed_in, NodeAt, first, first_dummy, node_of, IsRising, IsSpread, IsSound, TableAt, IsNew, Nothing, cursor_changes, nodes_of, Session, start, Side, side_of, IsIdle, owed_of, times_kept, World, Tells, IsSeated, state_of, session_changes, node_at, gap_if, gap_by, all_times, cases_eq, zero_from_ones, ones_le_self}
+use Rattle.boost_core.proofs.Vocabulary.{and_parts, cases_Bool, cases_lt, slice_get_within, get_or_from_slice_get, caller_of, is_power_of_two, length-replicate, get_or-replicate, get_or_past, All-nil, sum_by-cons, held_by, Sizes, are_limits, owed_in, NodeAt, first, first_dummy, node_of, IsRising, IsSpread, IsSound, TableAt, IsNew, Nothing, cursor_changes, nodes_of, Session, start, Side, side_of, IsIdle, owed_of, times_kept, World, Tells, HasStance, state_of, session_changes, node_at, gap_if, gap_by, all_times, cases_eq, zero_from_ones, ones_le_self}
 use Rattle.txn_trace.proofs.BadEntries.{legal_none}
 use Rattle.boost_core.proofs.Gaps.{idle_cursors}
 use Rattle.boost_core.proofs.NodeLists.{node_here, node_later, none_of_none}
@@ -68,9 +68,9 @@ module _ (limits : Sizes) (t : TableAt) (new : IsNew t limits.buckets limits.cal
   abbrev pub first_world : List (Option ℕ) → World
   first_world locks = record { limits = limits; history = []; counts = record { began = 0; committed = 0 }; table = t; sessions = sessions; locks = locks; placed = None; words = words }
 
-  idle_seated : (s : Session) (c : ℕ) → IsIdle s → IsSeated [] c (side_of s) s.log.room
-  idle_seated s c is = rw is (record {
-    seat = refl;
+  idle_stance : (s : Session) (c : ℕ) → IsIdle s → HasStance [] c (side_of s) s.log.room
+  idle_stance s c is = rw is (record {
+    stance = refl;
     log = refl;
     due = tt;
     agrees = record { standing = refl; kept = refl; waits = tt; level = omega arith };
@@ -114,7 +114,7 @@ module _ (limits : Sizes) (t : TableAt) (new : IsNew t limits.buckets limits.cal
     commits = refl;
     content = new.content_is;
     count = count;
-    seated = λ c s at. idle_seated s c (is_idle s c at);
+    its_stance = λ c s at. idle_stance s c (is_idle s c at);
     sought = λ c s at. rw (ap (λ (side : Side). side.cursor) (is_idle s c at)) tt;
     spares = none_covered t (all_times sessions) new.none_out (λ place stamp. sum_none (λ s. times_kept (side_of s) place stamp) sessions (λ s c at. ap (λ (side : Side). times_kept side place stamp) (is_idle s c at)));
     fresh = tt;
@@ -126,7 +126,7 @@ module _ (limits : Sizes) (t : TableAt) (new : IsNew t limits.buckets limits.cal
   }
 
   pub none_owed : sum_by owed_of sessions ≡ 0
-  none_owed = sum_none owed_of sessions (λ s c at. ap (λ (side : Side). owed_in side.seat.standing side.seat.phase) (is_idle s c at))
+  none_owed = sum_none owed_of sessions (λ s c at. ap (λ (side : Side). owed_in side.stance.standing side.stance.phase) (is_idle s c at))
 
   pub start_is : (locks : List (Option ℕ)) → state_of (first_world locks) ≡ record (start limits) { words = words }
   start_is locks = λ i. record {

@@ -1,6 +1,6 @@
 -- The names of lower crates and of specs that several proofs cite, in one place. Declares nothing.
 pub use Rattle.boost_core.specs.Answers.{IsReply, is_at_end, is_back_at, is_just_placed, may_be_stale, may_stand, owner_changes}
-pub use Rattle.boost_core.specs.Core.{LastPlacedFits, IsSeated, Tells, World, all_times, gap_at, gap_by, gap_if, gap_of, helper_gaps_of, node_at, nodes_at, session_changes, state_of, world_of}
+pub use Rattle.boost_core.specs.Core.{LastPlacedFits, HasStance, Tells, World, all_times, gap_at, gap_by, gap_if, gap_of, helper_gaps_of, node_at, nodes_at, session_changes, state_of, world_of}
 pub use Rattle.boost_core.specs.Counts.{counts_after}
 pub use Rattle.boost_core.specs.Helps.{HelpSuits, IsOnWay}
 pub use Rattle.boost_core.specs.Machine.{Cursors, Happens, Fits, IsAllowed, IsAnswer, KeepsGaps, Lists, Move, Moves, Touches, mover_of, placed_then, stamp_after}
@@ -11,7 +11,7 @@ pub use Rattle.boost_core.specs.Refusals.{MayLack, first_of, has_cursor, holds_d
 pub use Rattle.boost_core.specs.Serves.{Linking, Serves, Storing, Sweeping, doubled}
 pub use Rattle.boost_core.specs.Sessions.{ActsIn, Agrees, AreDue, AsksBy, AsksIn, CanAct, CanArrive, CanSettle, CanUndo, HasEffect, DoesIn, Drops, EndsIn, GoesWith, IsAsked, IsIdle, IsSought, IsSoughtAt, KeepsPlaced, MeetsIn, Rests, ReturnsIn, Saves, SavesIn, SeeksIn, SettlesIn, Side, MayTakeStep, Reach, reach, TakesBackIn, Waits, WithdrawsIn, change_of, changes_of, key_of_newest, level_of, owed_of, side_of, spare_if, target_in, target_of, times_kept, unless_busy}
 pub use Rattle.boost_core.specs.Spares.{IsCovered, IsCoveredWith, StaysCovered, times_in, times_of, times_out}
-pub use Rattle.boost_core.specs.State.{Caller, Dummy, Gap, Help, Helper, Node, Nothing, Owner, SortKey, Sought, State, bucket_at, caller_changes, gap_for, gap_in, help_in, helper_changes, holder_by, is_set, marked_node, plain_node, seat_in, start, with_bucket}
+pub use Rattle.boost_core.specs.State.{Caller, Dummy, Gap, Help, Helper, Node, Nothing, Owner, SortKey, Sought, State, bucket_at, caller_changes, gap_for, gap_in, help_in, helper_changes, holder_by, is_set, marked_node, plain_node, stance_in, start, with_bucket}
 pub use Rattle.boost_core.specs.Whole.{IsWhole}
 pub use Rattle.boost_core.specs.Words.{Claim, Goes, Held, IsClaim, ListsAsk, ListsBy, Lock, Right, Stale, is_ask, is_taken, may_come, reserved_by, stamp_by}
 pub use Rattle.boost_core.specs.declared.counts.Counts.{Counts}
@@ -68,23 +68,23 @@ pub use Rattle.txn_drive.specs.declared.way.Way.{Way}
 pub use Rattle.txn_trace.proofs.HeldStripes.{held_apart, log_held, waiting_held}
 pub use Rattle.txn_trace.proofs.Holders.{is_locked-asked, is_locked-busy}
 pub use Rattle.txn_trace.proofs.Naming.{has_begun-other, has_begun-own, legal_begun}
-pub use Rattle.txn_trace.proofs.EntrySteps.{Next, seat-own}
+pub use Rattle.txn_trace.proofs.EntrySteps.{Next, stance-own}
 pub use Rattle.txn_trace.proofs.Now.{same_is, same_option}
-pub use Rattle.txn_trace.proofs.Pushes.{how_many-push, own-push_in, seat_after-push}
+pub use Rattle.txn_trace.proofs.Pushes.{how_many-push, own-push_in, stance_after-push}
 pub use Rattle.txn_trace.specs.Legal.{IsLegal, is_running, runs}
 pub use Rattle.txn_trace.specs.Locks.{has_begun, holder_of, is_locked, stripe_of}
 pub use Rattle.txn_trace.specs.Log.{log_of}
 pub use Rattle.txn_trace.specs.Now.{now}
 pub use Rattle.txn_trace.specs.Serial.{serial}
 pub use Rattle.txn_words.proofs.Effects.{after_unchanged, changes-reply, get-after_other}
-pub use Rattle.txn_words.proofs.Levels.{IsLevelIn, seat_leveled}
+pub use Rattle.txn_words.proofs.Levels.{IsLevelIn, stance_leveled}
 pub use Rattle.txn_words.proofs.Maps.{get-insert-here, get-remove-here, get-set_at, same_map}
 pub use Rattle.txn_words.specs.Entries.{entries_of}
 pub use Rattle.txn_words.specs.Kinds.{caller_of, is_began, is_commit}
 pub use Rattle.txn_words.specs.Map.{Map, after, count_of, get, key_of, reply_of, set_at}
 pub use Rattle.txn_words.specs.Owed.{owed, owed_by, owed_in, reserved}
-pub use Rattle.txn_words.specs.Seats.{is_saved}
-pub use Rattle.txn_words.specs.Shape.{RoomySeat, Seat, changes, closed_seat, how_many, own, row, seat_after}
+pub use Rattle.txn_words.specs.Stances.{is_saved}
+pub use Rattle.txn_words.specs.Shape.{RoomyStance, Stance, changes, closed_stance, how_many, own, row, stance_after}
 pub use Rattle.txn_words.specs.Sizes.{Sizes, are_limits, is_bad_key}
 pub use Rattle.txn_words.specs.declared.answer.Answer.{Answer}
 pub use Rattle.txn_words.specs.declared.answer.Answer.TheVariants.{Aborted, Again, Asked, Done, Leaving, Placed, Refused, Returned, Undone}
@@ -95,8 +95,8 @@ pub use Rattle.txn_words.specs.declared.op.Op.{Op}
 pub use Rattle.txn_words.specs.declared.op.Op.TheVariants.{Get, Put, PutIf, Take}
 pub use Rattle.txn_words.specs.declared.refusal.Refusal.{Refusal}
 pub use Rattle.txn_words.specs.declared.refusal.Refusal.TheVariants.{NoMemory, NoSuchCaller, StaleWord, StampsUsedUp, Unplaced, NotOpen, NothingToSeek, BadKey, HelperOutOfOrder, NoSuchBucket, NoSuchHelper, ParentMissing, OutOfStep}
-pub use Rattle.txn_words.specs.declared.seat.Phase.{Phase}
-pub use Rattle.txn_words.specs.declared.seat.Phase.TheVariants.{Closed, LeavingTo, LeavingToEnd, Opened, Waiting}
+pub use Rattle.txn_words.specs.declared.stance.Phase.{Phase}
+pub use Rattle.txn_words.specs.declared.stance.Phase.TheVariants.{Closed, LeavingTo, LeavingToEnd, Opened, Waiting}
 pub use Rattle.txn_words.specs.declared.step.Step.{Step}
 pub use Rattle.txn_words.specs.declared.step.Step.TheVariants.{Abort, Act, Ask, Back, Begin, Commit, Seek, Save}
 pub use Rattle.undo_log.specs.UndoLog.{LogAt, kept_at, newest_above}

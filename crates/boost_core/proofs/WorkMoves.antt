@@ -1,15 +1,15 @@
 -- Shows that `Seek` and `Act` are moves that keep the core's invariants, because the table does to
 -- its content what the entry does to the map `now`.
 use Rattle.std.proofs.Common.{◌≡◌, ℕ, ◌+◌, ◌-◌, ◌<◌, true, cond, List, [], ◌∷◌, ◌++◌, length, Option, Some, None, is_some, refl, sym, ap, subst, ◌∙◌, arith, slice_get, slice_set, map, reverse, slice_index, nat_lt, option_to_list, ne_eqb, ltb-true, ◌^◌, false, inl, inr, option_map}
-use Rattle.boost_core.proofs.Vocabulary.{false≢true, reverse-append, stripe_of, holder_of, TableAt, content, table_changes, serial, now, log_of, Phase, Opened, Waiting, LeavingTo, LeavingToEnd, Next, kept_at, MapJob, key_of, reply_of, after, set_at, Map, runs, is_running, changes, Seat, get-after_other, get-set_at, waiting_held, log_held, held_apart, takes_node, key_of_job, value_before, spare_of_job, PendingAt, Session, seat_in, holder_by, refusal_of, has_job, times_of, times_in, StaysCovered, World, Tells, state_of, session_changes, IsReply, side_of, level_of, KeepsPlaced, Waits, spare_if, times_kept, change_of, changes_of, AreDue, DoesIn, TakesBackIn, Act, cases_eq, and_from, slice_get_within, Cursor, cursor_changes, map_of, IsPlaced, Owner, Caller, Helper, has_target, LastPlacedFits, is_just_placed, may_be_stale, target_in, target_of, IsSoughtAt, SeeksIn, Drops, Seek}
+use Rattle.boost_core.proofs.Vocabulary.{false≢true, reverse-append, stripe_of, holder_of, TableAt, content, table_changes, serial, now, log_of, Phase, Opened, Waiting, LeavingTo, LeavingToEnd, Next, kept_at, MapJob, key_of, reply_of, after, set_at, Map, runs, is_running, changes, Stance, get-after_other, get-set_at, waiting_held, log_held, held_apart, takes_node, key_of_job, value_before, spare_of_job, PendingAt, Session, stance_in, holder_by, refusal_of, has_job, times_of, times_in, StaysCovered, World, Tells, state_of, session_changes, IsReply, side_of, level_of, KeepsPlaced, Waits, spare_if, times_kept, change_of, changes_of, AreDue, DoesIn, TakesBackIn, Act, cases_eq, and_from, slice_get_within, Cursor, cursor_changes, map_of, IsPlaced, Owner, Caller, Helper, has_target, LastPlacedFits, is_just_placed, may_be_stale, target_in, target_of, IsSoughtAt, SeeksIn, Drops, Seek}
 use Rattle.boost_core.proofs.Numbers.{no_more}
 use Rattle.boost_core.proofs.Moves.{state_is, changes_set, stale_since}
 use Rattle.boost_core.proofs.Outcomes.{Called, entered}
 use Rattle.boost_core.proofs.Spares.{times_pushed, spent, done_covered, still_covered, buckets_same}
 use Rattle.boost_core.proofs.Due.{NotedIf, noted, changes_noted, due_noted}
 use Rattle.boost_core.proofs.Sides.{IsGoing, going, waiting_op, changes_last}
-use Rattle.boost_core.proofs.SideRefusals.{seat_here, changes_here}
-use Rattle.boost_core.proofs.OneCaller.{seated_as, set_cases}
+use Rattle.boost_core.proofs.SideRefusals.{stance_here, changes_here}
+use Rattle.boost_core.proofs.OneCaller.{stance_as, set_cases}
 use Rattle.txn_words.specs.declared.entry.Entry.TheVariants as entry
 use Rattle.txn_words.specs.declared.answer.Answer.TheVariants as answers
 use Rattle.txn_trace.proofs.Entries as laws
@@ -31,41 +31,41 @@ waiting_spare (Waiting op) pending room is = is.2 ∙ ap takes_node (sym is.0)
 waiting_spare _ pending room is = absurd is
 
 module _ (w : World) (tells : Tells w) (c : ℕ) (x : Session) (at : slice_get w.sessions c ≡ Some x) where
-  here : seat_in w.history c ≡ x.seat.seat
-  here = seat_here w tells c x at
+  here : stance_in w.history c ≡ x.stance.stance
+  here = stance_here w tells c x at
 
   -- The outcome of the step `Act` that does the waiting operation.
   module _ (none : refusal_of (state_of w) (Act c) ≡ None) (reply : Option ℕ) (y : Session) (t' : TableAt) (does : DoesIn x w.table reply y t') (keeps : KeepsPlaced w.table t') where
-    waits_was : Waits x.seat.seat.phase (Some does.pending) x.log.room
-    waits_was = rw does.had at (tells.seated c x at).agrees.waits
+    waits_was : Waits x.stance.stance.phase (Some does.pending) x.log.room
+    waits_was = rw does.had at (tells.its_stance c x at).agrees.waits
 
-    phase_was : x.seat.seat.phase ≡ Waiting does.pending.op
-    phase_was = waiting_op x.seat.seat.phase does.pending x.log.room waits_was
+    phase_was : x.stance.stance.phase ≡ Waiting does.pending.op
+    phase_was = waiting_op x.stance.stance.phase does.pending x.log.room waits_was
 
     reply_is : reply ≡ reply_of (now w.history) does.pending.op
     reply_is = rw tells.content at does.does.reply_is
 
     noted_here : NotedIf (now w.history) does.pending.op does.pending.spare does.job
-    noted_here = rw (does.does.job_is, tells.content) (noted (now w.history) does.pending.op does.pending.spare (waiting_spare x.seat.seat.phase does.pending x.log.room waits_was))
+    noted_here = rw (does.does.job_is, tells.content) (noted (now w.history) does.pending.op does.pending.spare (waiting_spare x.stance.stance.phase does.pending x.log.room waits_was))
 
-    abbrev did_seat : Seat
-    did_seat = record { phase = Opened; standing = cond (changes does.pending.op reply) (x.seat.seat.standing + 1) x.seat.seat.standing; kept = x.seat.seat.kept }
+    abbrev did_stance : Stance
+    did_stance = record { phase = Opened; standing = cond (changes does.pending.op reply) (x.stance.stance.standing + 1) x.stance.stance.standing; kept = x.stance.stance.kept }
 
-    did_law : Next (holder_by w.words) w.limits.stripes w.history (entry.Did c reply) did_seat (cond (changes does.pending.op reply) ((key_of does.pending.op, reply) ∷ log_of c w.history) (log_of c w.history)) (serial w.history) (after (now w.history) does.pending.op) (λ s. holder_of w.limits.stripes s w.history)
-    did_law = laws.did w.limits.stripes w.history tells.legal c does.pending.op reply x.seat.seat (tells.seated c x at).seat phase_was reply_is
+    did_law : Next (holder_by w.words) w.limits.stripes w.history (entry.Did c reply) did_stance (cond (changes does.pending.op reply) ((key_of does.pending.op, reply) ∷ log_of c w.history) (log_of c w.history)) (serial w.history) (after (now w.history) does.pending.op) (λ s. holder_of w.limits.stripes s w.history)
+    did_law = laws.did w.limits.stripes w.history tells.legal c does.pending.op reply x.stance.stance (tells.its_stance c x at).stance phase_was reply_is
 
     did_log : cond (changes does.pending.op reply) ((key_of does.pending.op, reply) ∷ log_of c w.history) (log_of c w.history) ≡ changes_of (x.log.jobs ++ option_to_list does.job)
     did_log =
-        rw ((tells.seated c x at).log, reply_is) (changes_noted (now w.history) does.pending.op does.pending.spare x.log.jobs does.job noted_here)
+        rw ((tells.its_stance c x at).log, reply_is) (changes_noted (now w.history) does.pending.op does.pending.spare x.log.jobs does.job noted_here)
 
     pub did_called : Called w c x (Act c) (answers.Done reply) y t' w.locks
     did_called =
         entered w c x y t' w.locks (Act c) (answers.Done reply) (entry.Did c reply)
         (slice_set (map session_changes w.sessions) c None) refl refl refl refl
-        (none, subst (λ (q : Phase). IsReply q (now w.history) reply) (sym (ap (λ (s : Seat). s.phase) here ∙ phase_was)) reply_is)
+        (none, subst (λ (q : Phase). IsReply q (now w.history) reply) (sym (ap (λ (s : Stance). s.phase) here ∙ phase_was)) reply_is)
         does.does.linked
         (record {
-          seat = did_seat;
+          stance = did_stance;
           committed = serial w.history;
           current = after (now w.history) does.pending.op;
           holder = λ s. holder_of w.limits.stripes s w.history;
@@ -74,12 +74,12 @@ module _ (w : World) (tells : Tells w) (c : ℕ) (x : Session) (at : slice_get w
           next = rw did_log at did_law;
           mine = refl;
           saved = λ is. absurd (false≢true is);
-          kept = (tells.seated c x at).agrees.kept;
+          kept = (tells.its_stance c x at).agrees.kept;
           waits = tt;
-          due = due_noted (now w.history) does.pending.op does.pending.spare x.log.jobs does.job noted_here (tells.seated c x at).due;
+          due = due_noted (now w.history) does.pending.op does.pending.spare x.log.jobs does.job noted_here (tells.its_stance c x at).due;
           content = rw tells.content at does.does.content_is;
           apart = λ d other k held. get-after_other (now w.history) does.pending.op k
-              (held_apart w.limits.stripes w.history d c k (key_of does.pending.op) held (waiting_held w.limits.stripes w.history tells.legal c does.pending.op x.seat.seat (tells.seated c x at).seat phase_was) other);
+              (held_apart w.limits.stripes w.history d c k (key_of does.pending.op) held (waiting_held w.limits.stripes w.history tells.legal c does.pending.op x.stance.stance (tells.its_stance c x at).stance phase_was) other);
           placed = keeps;
           spares = λ others covered. done_covered w.table t' does.pending.spare does.job x.log.jobs (content w.table) does.pending.op does.does.job_is does.does.spares others
               (rw does.had at covered);
@@ -91,34 +91,34 @@ module _ (w : World) (tells : Tells w) (c : ℕ) (x : Session) (at : slice_get w
         })
 
   -- The outcome of the step `Act` that takes the newest change back.
-  module _ (none : refusal_of (state_of w) (Act c) ≡ None) (has : has_job x.seat.seat ≡ true) (y : Session) (t' : TableAt) (back : TakesBackIn x w.table y t') (keeps : KeepsPlaced w.table t') where
-    goes : IsGoing x.seat.seat.phase × (nat_lt (kept_at x.log.kept (level_of x.seat.seat.phase)) (length x.log.jobs) ≡ true)
-    goes = going x.seat.seat.phase (length x.log.jobs) x.log.kept (ap has_job (λ i. record { phase = x.seat.seat.phase; standing = sym (tells.seated c x at).agrees.standing i; kept = sym (tells.seated c x at).agrees.kept i }) ∙ has)
+  module _ (none : refusal_of (state_of w) (Act c) ≡ None) (has : has_job x.stance.stance ≡ true) (y : Session) (t' : TableAt) (back : TakesBackIn x w.table y t') (keeps : KeepsPlaced w.table t') where
+    goes : IsGoing x.stance.stance.phase × (nat_lt (kept_at x.log.kept (level_of x.stance.stance.phase)) (length x.log.jobs) ≡ true)
+    goes = going x.stance.stance.phase (length x.log.jobs) x.log.kept (ap has_job (λ i. record { phase = x.stance.stance.phase; standing = sym (tells.its_stance c x at).agrees.standing i; kept = sym (tells.its_stance c x at).agrees.kept i }) ∙ has)
 
     log_is : log_of c w.history ≡ change_of back.job ∷ changes_of y.log.jobs
-    log_is = (tells.seated c x at).log ∙ changes_last x.log.jobs y.log.jobs back.job back.jobs
+    log_is = (tells.its_stance c x at).log ∙ changes_last x.log.jobs y.log.jobs back.job back.jobs
 
     abbrev undone_map : Map
     undone_map = set_at (now w.history) (key_of_job back.job) (value_before back.job)
 
-    abbrev undone_seat : Seat
-    undone_seat = record { phase = x.seat.seat.phase; standing = x.seat.seat.standing - 1; kept = x.seat.seat.kept }
+    abbrev undone_stance : Stance
+    undone_stance = record { phase = x.stance.stance.phase; standing = x.stance.stance.standing - 1; kept = x.stance.stance.kept }
 
-    some_standing : 0 < x.seat.seat.standing
-    some_standing = omega (arith, (tells.seated c x at).agrees.standing, ltb-true (kept_at x.log.kept (level_of x.seat.seat.phase)) (length x.log.jobs) goes.1)
+    some_standing : 0 < x.stance.stance.standing
+    some_standing = omega (arith, (tells.its_stance c x at).agrees.standing, ltb-true (kept_at x.log.kept (level_of x.stance.stance.phase)) (length x.log.jobs) goes.1)
 
-    undone_law : (q : Phase) → x.seat.seat.phase ≡ q → IsGoing q × (nat_lt (kept_at x.log.kept (level_of q)) (length x.log.jobs) ≡ true)
-        → Next (holder_by w.words) w.limits.stripes w.history (entry.Undone c) undone_seat (changes_of y.log.jobs) (serial w.history) undone_map (λ s. holder_of w.limits.stripes s w.history)
+    undone_law : (q : Phase) → x.stance.stance.phase ≡ q → IsGoing q × (nat_lt (kept_at x.log.kept (level_of q)) (length x.log.jobs) ≡ true)
+        → Next (holder_by w.words) w.limits.stripes w.history (entry.Undone c) undone_stance (changes_of y.log.jobs) (serial w.history) undone_map (λ s. holder_of w.limits.stripes s w.history)
     undone_law (LeavingTo n) is so =
-        let agrees = (tells.seated c x at).agrees in
-        laws.undone_to w.limits.stripes w.history tells.legal c n x.seat.seat (tells.seated c x at).seat is
-        (subst (λ ks. slice_index ks n < x.seat.seat.standing) (sym agrees.kept) (subst (λ k. kept_at x.log.kept n < k) (sym agrees.standing) (ltb-true (kept_at x.log.kept n) (length x.log.jobs) so.1))) (change_of back.job) (changes_of y.log.jobs) log_is
-    undone_law LeavingToEnd is so = laws.undone_to_end w.limits.stripes w.history tells.legal c x.seat.seat (tells.seated c x at).seat is some_standing (change_of back.job) (changes_of y.log.jobs) log_is
+        let agrees = (tells.its_stance c x at).agrees in
+        laws.undone_to w.limits.stripes w.history tells.legal c n x.stance.stance (tells.its_stance c x at).stance is
+        (subst (λ ks. slice_index ks n < x.stance.stance.standing) (sym agrees.kept) (subst (λ k. kept_at x.log.kept n < k) (sym agrees.standing) (ltb-true (kept_at x.log.kept n) (length x.log.jobs) so.1))) (change_of back.job) (changes_of y.log.jobs) log_is
+    undone_law LeavingToEnd is so = laws.undone_to_end w.limits.stripes w.history tells.legal c x.stance.stance (tells.its_stance c x at).stance is some_standing (change_of back.job) (changes_of y.log.jobs) log_is
     undone_law _ is so = absurd so.0
 
     key_held : holder_of w.limits.stripes (stripe_of w.limits.stripes (key_of_job back.job)) w.history ≡ Some c
     key_held = (rw log_is at
-        (log_held w.limits.stripes w.history tells.legal c (ap is_running (tells.seated c x at).seat ∙ going_runs x.seat.seat.phase goes.0))).0
+        (log_held w.limits.stripes w.history tells.legal c (ap is_running (tells.its_stance c x at).stance ∙ going_runs x.stance.stance.phase goes.0))).0
 
     undone_covered : StaysCovered w.table (times_kept (side_of x)) t' (times_kept (record (side_of x) { jobs = y.log.jobs }))
     undone_covered others covered place stamp =
@@ -133,18 +133,18 @@ module _ (w : World) (tells : Tells w) (c : ℕ) (x : Session) (at : slice_get w
         entered w c x y t' w.locks (Act c) answers.Undone (entry.Undone c)
         (slice_set (map session_changes w.sessions) c None) refl refl refl refl (none, ap has_job here ∙ has) back.back.linked
         (record {
-          seat = undone_seat;
+          stance = undone_stance;
           committed = serial w.history;
           current = undone_map;
           holder = λ s. holder_of w.limits.stripes s w.history;
           side = record (side_of x) { jobs = y.log.jobs };
           becomes = back.becomes;
-          next = undone_law x.seat.seat.phase refl goes;
+          next = undone_law x.stance.stance.phase refl goes;
           mine = refl;
           saved = λ is. absurd (false≢true is);
-          kept = (tells.seated c x at).agrees.kept;
-          waits = going_waits x.seat.seat.phase x.pending x.log.room y.log.room goes.0 (tells.seated c x at).agrees.waits;
-          due = (subst (λ (js : List MapJob). AreDue (now w.history) js) (ap reverse back.jobs ∙ reverse-append y.log.jobs (back.job ∷ [])) (tells.seated c x at).due).1;
+          kept = (tells.its_stance c x at).agrees.kept;
+          waits = going_waits x.stance.stance.phase x.pending x.log.room y.log.room goes.0 (tells.its_stance c x at).agrees.waits;
+          due = (subst (λ (js : List MapJob). AreDue (now w.history) js) (ap reverse back.jobs ∙ reverse-append y.log.jobs (back.job ∷ [])) (tells.its_stance c x at).due).1;
           content = rw tells.content at back.back.content_is;
           apart = λ d other k held.
               rw (get-set_at (now w.history) (key_of_job back.job) (value_before back.job) k, ne_eqb k (key_of_job back.job) (held_apart w.limits.stripes w.history d c k (key_of_job back.job) held key_held other)) refl;
@@ -164,21 +164,21 @@ module _ (w : World) (tells : Tells w) (c : ℕ) (x : Session) (at : slice_get w
         comes = record {
           cursor = Some seeks.cursor;
           becomes = ap side_of seeks.becomes;
-          waits = subst (λ (s : Session). Waits x.seat.seat.phase x.pending s.log.room) (sym seeks.becomes) (tells.seated c x at).agrees.waits;
+          waits = subst (λ (s : Session). Waits x.stance.stance.phase x.pending s.log.room) (sym seeks.becomes) (tells.its_stance c x at).agrees.waits;
           content = ap map_of seeks.places.keeps.regular;
           placed = keeps;
-          sought = subst (λ (s : Session). IsSoughtAt t' (Some seeks.cursor) (target_in x.seat.seat.phase s.log)) (sym seeks.becomes) (subst (IsSoughtAt t' (Some seeks.cursor)) (sym seeks.target) seeks.places.placed);
+          sought = subst (λ (s : Session). IsSoughtAt t' (Some seeks.cursor) (target_in x.stance.stance.phase s.log)) (sym seeks.becomes) (subst (IsSoughtAt t' (Some seeks.cursor)) (sym seeks.target) seeks.places.placed);
           spares = λ others covered. still_covered w.table t' (λ p q. others p q + times_kept (side_of x) p q) seeks.places.spares covered;
           buckets = seeks.places.keeps.buckets;
           same_locks = refl;
           same_counts = refl;
         };
-        move = λ seat'. record {
+        move = λ stance'. record {
           allowed = (none, tt);
-          state = state_is w (w.history ++ []) (w.history ++ []) w.counts t' (slice_set (map session_changes w.sessions) c (Some (table_changes t'))) (slice_set w.sessions c (seated_as y seat')) w.locks (Some (Caller c)) seeks.places.keeps.buckets seeks.places.keeps.linked refl
-              (changes_set w.sessions c (seated_as y seat') (Some (table_changes t')) (ap session_changes seeks.becomes ∙ ap Some seeks.places.changes));
+          state = state_is w (w.history ++ []) (w.history ++ []) w.counts t' (slice_set (map session_changes w.sessions) c (Some (table_changes t'))) (slice_set w.sessions c (stance_as y stance')) w.locks (Some (Caller c)) seeks.places.keeps.buckets seeks.places.keeps.linked refl
+              (changes_set w.sessions c (stance_as y stance') (Some (table_changes t')) (ap session_changes seeks.becomes ∙ ap Some seeks.places.changes));
         };
-        fresh = λ seat' s cursor at_c had. elim (set_cases w.sessions c c (seated_as y seat') s (slice_get_within w.sessions c x at) at_c) [
+        fresh = λ stance' s cursor at_c had. elim (set_cases w.sessions c c (stance_as y stance') s (slice_get_within w.sessions c x at) at_c) [
           | inl mine ↦
               let both : Some seeks.cursor ≡ Some cursor = sym (ap (λ (q : Session). q.cursor) mine.1 ∙ ap (λ (q : Session). q.cursor) seeks.becomes) ∙ had in
               let same : seeks.cursor ≡ cursor = cc both in rw same at seeks.places.fits
@@ -187,7 +187,7 @@ module _ (w : World) (tells : Tells w) (c : ℕ) (x : Session) (at : slice_get w
       }
 
   -- The outcome of the step `Act` if the caller's cursor no longer fits: the cursor is dropped.
-  module _ (none : refusal_of (state_of w) (Act c) ≡ None) (target : has_target x.seat.seat ≡ true) (y : Session) (drops : Drops x w.table y) where
+  module _ (none : refusal_of (state_of w) (Act c) ≡ None) (target : has_target x.stance.stance ≡ true) (y : Session) (drops : Drops x w.table y) where
     not_fresh : is_just_placed (Caller c) w.placed ≡ false
     not_fresh = at_placed w.placed tells.fresh
       where
@@ -215,7 +215,7 @@ module _ (w : World) (tells : Tells w) (c : ℕ) (x : Session) (at : slice_get w
       comes = record {
         cursor = None;
         becomes = ap side_of drops.becomes;
-        waits = subst (λ (s : Session). Waits x.seat.seat.phase x.pending s.log.room) (sym drops.becomes) (tells.seated c x at).agrees.waits;
+        waits = subst (λ (s : Session). Waits x.stance.stance.phase x.pending s.log.room) (sym drops.becomes) (tells.its_stance c x at).agrees.waits;
         content = refl;
         placed = record { placed = λ cursor key is. is; sound = λ sound. sound };
         sought = tt;
@@ -224,10 +224,10 @@ module _ (w : World) (tells : Tells w) (c : ℕ) (x : Session) (at : slice_get w
         same_locks = refl;
         same_counts = refl;
       };
-      move = λ seat'. record {
-        allowed = (none, and_from (has_target (seat_in w.history c)) (may_be_stale (state_of w) (Caller c)) (ap has_target here ∙ target) stale);
-        state = state_is w (w.history ++ []) (w.history ++ []) w.counts w.table (slice_set (map session_changes w.sessions) c None) (slice_set w.sessions c (seated_as y seat')) w.locks None (buckets_same w.table) refl refl
-            (changes_set w.sessions c (seated_as y seat') None (ap session_changes drops.becomes));
+      move = λ stance'. record {
+        allowed = (none, and_from (has_target (stance_in w.history c)) (may_be_stale (state_of w) (Caller c)) (ap has_target here ∙ target) stale);
+        state = state_is w (w.history ++ []) (w.history ++ []) w.counts w.table (slice_set (map session_changes w.sessions) c None) (slice_set w.sessions c (stance_as y stance')) w.locks None (buckets_same w.table) refl refl
+            (changes_set w.sessions c (stance_as y stance') None (ap session_changes drops.becomes));
       };
-      fresh = λ seat'. tt;
+      fresh = λ stance'. tt;
     }

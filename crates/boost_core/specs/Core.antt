@@ -1,6 +1,6 @@
 -- The invariants of every core.
 use Rattle.std.specs.Prelude.{◌≡◌, ℕ, ◌+◌, ◌<◌, ◌≤◌, Bool, true, Option, Some, None, List, length, map, reverse, slice_get, vec_len, vec_capacity, sum_by, if◌then◌else◌}
-use Rattle.boost_core.specs.Vocabulary.{option_map, All, Entry, Sizes, caller_of, is_began, is_commit, now, seat_after, own, how_many, log_of, holder_of, node_of, IsSound, TableAt, Cursor, NodeAt, nodes_of, content, cursor_changes, fits, size_of, stored_of, linked_of, helps_of, cursors_of, table_changes, last_of, largest_of, helper_fits}
+use Rattle.boost_core.specs.Vocabulary.{option_map, All, Entry, Sizes, caller_of, is_began, is_commit, now, stance_after, own, how_many, log_of, holder_of, node_of, IsSound, TableAt, Cursor, NodeAt, nodes_of, content, cursor_changes, fits, size_of, stored_of, linked_of, helps_of, cursors_of, table_changes, last_of, largest_of, helper_fits}
 use Rattle.std.specs.Global.{Vec}
 use Rattle.txn_trace.specs.Legal.{IsLegal}
 use Rattle.key_locks.specs.Locks.{holder_of as held_by}
@@ -91,8 +91,8 @@ state_of w = record {
 }
 
 -- A caller's side agrees with the history. `room` is the room of the caller's log.
-pub record IsSeated (history : List Entry) (c : ℕ) (side : Side) (room : ℕ) : Type 0 where
-  pub seat : seat_after (own c history) ≡ Some side.seat
+pub record HasStance (history : List Entry) (c : ℕ) (side : Side) (room : ℕ) : Type 0 where
+  pub stance : stance_after (own c history) ≡ Some side.stance
   pub log : log_of c history ≡ changes_of side.jobs
   pub due : AreDue (now history) (reverse side.jobs)
   pub agrees : Agrees side room
@@ -118,8 +118,8 @@ pub record Tells (w : World) : Type 0 where
   pub commits : w.counts.committed ≡ how_many is_commit w.history
   pub content : content w.table ≡ now w.history
   pub count : length w.sessions ≡ w.limits.callers
-  pub seated : (c : ℕ) (s : Session) → slice_get w.sessions c ≡ Some s
-      → IsSeated w.history c (side_of s) s.log.room
+  pub its_stance : (c : ℕ) (s : Session) → slice_get w.sessions c ≡ Some s
+      → HasStance w.history c (side_of s) s.log.room
   pub sought : (c : ℕ) (s : Session) → slice_get w.sessions c ≡ Some s → IsSought w.table s
   pub spares : IsCovered (all_times w.sessions) w.table
   pub fresh : LastPlacedFits w.table w.sessions w.placed

@@ -7,7 +7,7 @@ use Rattle.std.specs.Prelude.{◌≡◌, ℕ, ◌+◌, ◌*◌, ◌==◌, ◌&&�
 use Rattle.boost_core.specs.Vocabulary.{regular_at, dummy_at, is_began, is_commit, how_many, Op, Step, Begin, Ask, Seek, Act, Save, Back, Commit, Abort, Sweep, InitSeek, InitLink, InitStore, Double, Answer, now, log_of, takes_node, parent_of}
 use Rattle.txn_words.specs.declared.entry.Entry.TheVariants as entries
 use Rattle.txn_words.specs.declared.answer.Answer.TheVariants as answers
-use Rattle.boost_core.specs.State.{State, Owner, Caller, Helper, Help, Nothing, Sought, Dummy, seat_in, gap_for, bucket_of, is_set, with_bucket}
+use Rattle.boost_core.specs.State.{State, Owner, Caller, Helper, Help, Nothing, Sought, Dummy, stance_in, gap_for, bucket_of, is_set, with_bucket}
 use Rattle.boost_core.specs.Refusals.{has_job, has_target, has_stamp, has_stamp_for, lacks_dummy}
 use Rattle.boost_core.specs.Answers.{may_be_stale, may_stand, may_grow, is_crowded, is_back_at, is_at_end, IsReply}
 use Rattle.boost_core.specs.Nodes.{LeavesNodes, Links, Sweeps, SeeksFrom, SeeksKey, OpDoesIn, BackDoes, IsClean, StandsAt, HasFit, next_key}
@@ -108,15 +108,15 @@ MayHappen state (By c (Busy op x)) =
     IsTrue ((state.words || has_stamp_for state op) && may_stand state (entries.Busy c op x))
 MayHappen state (By c Placed) = Unit {0}
 MayHappen state (By c Again) =
-    IsTrue (has_target (seat_in state.history c) && may_be_stale state (Caller c))
+    IsTrue (has_target (stance_in state.history c) && may_be_stale state (Caller c))
 MayHappen state (By c (Done reply)) =
-    IsReply (seat_in state.history c).phase (now state.history) reply
-MayHappen state (By c Undone) = IsTrue (has_job (seat_in state.history c))
+    IsReply (stance_in state.history c).phase (now state.history) reply
+MayHappen state (By c Undone) = IsTrue (has_job (stance_in state.history c))
 MayHappen state (By c (Returned n)) =
-    IsTrue (not (has_job (seat_in state.history c)) && is_back_at n (seat_in state.history c).phase)
+    IsTrue (not (has_job (stance_in state.history c)) && is_back_at n (stance_in state.history c).phase)
 MayHappen state (By c Aborted) =
-    IsTrue (not (has_job (seat_in state.history c)) && is_at_end (seat_in state.history c).phase)
-MayHappen state (By c (Saved n)) = n ≡ length (seat_in state.history c).kept
+    IsTrue (not (has_job (stance_in state.history c)) && is_at_end (stance_in state.history c).phase)
+MayHappen state (By c (Saved n)) = n ≡ length (stance_in state.history c).kept
 MayHappen state (By c (Leaving level)) = Unit {0}
 MayHappen state (By c (Committed p)) = p ≡ how_many is_commit state.history + 1
 MayHappen state (Of Swept) = Unit {0}
@@ -172,7 +172,7 @@ placed_in event = None
 -- The effect of an event on the nodes and on the change number.
 abbrev pub TouchesBy : State → Event → State → Type 0
 TouchesBy old (By c Placed) new = SeeksKey old new (next_key old c)
-TouchesBy old (By c (Done reply)) new = OpDoesIn old new (seat_in old.history c).phase
+TouchesBy old (By c (Done reply)) new = OpDoesIn old new (stance_in old.history c).phase
 TouchesBy old (By c Undone) new = BackDoes old new (log_of c old.history)
 TouchesBy old (Of Swept) new = Sweeps old new
 TouchesBy old (Of Clean) new = IsClean old.nodes × LeavesNodes old new

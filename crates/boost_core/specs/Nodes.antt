@@ -3,7 +3,7 @@
 use Rattle.std.specs.Prelude.{◌≡◌, ℕ, ◌-◌, ◌%◌, ◌<◌, Bool, true, false, not, List, [], ◌∷◌, ◌++◌, Option, Some, None, is_some, length, filter, nat_eq}
 use Rattle.boost_core.specs.Vocabulary.{option_eq, AllByRecursion, ancestor_of, IsBefore, IsNotBefore, regular_at, dummy_at, one_more, changes_after, Op, Phase, Waiting, get, key_of, now, log_of}
 use Rattle.txn_words.specs.declared.op.Op.TheVariants.{Put, Take, Get, PutIf}
-use Rattle.boost_core.specs.State.{State, Node, Gap, SortKey, Owner, plain_node, marked_node, seat_in, gap_for, is_set}
+use Rattle.boost_core.specs.State.{State, Node, Gap, SortKey, Owner, plain_node, marked_node, stance_in, gap_for, is_set}
 
 -- The nodes are in rising order of their positions, and no position occurs twice.
 unfoldable pub IsInOrder : List Node → Type 0
@@ -91,7 +91,7 @@ next_key_in (Waiting op) log = key_of op
 next_key_in phase log = newest_key log
 
 abbrev pub next_key : State → ℕ → ℕ
-next_key state c = next_key_in (seat_in state.history c).phase (log_of c state.history)
+next_key state c = next_key_in (stance_in state.history c).phase (log_of c state.history)
 
 -- A seek for the key starts at the dummy of the key's bucket. If this bucket is not stored, the
 -- seek starts at the dummy of the nearest ancestor that is stored.

@@ -6,7 +6,7 @@ use Rattle.txn_drive.specs.declared.call.Call.TheVariants as calls
 use Rattle.txn_drive.specs.declared.drive.Drive.{Drive}
 use Rattle.txn_drive.specs.declared.«end».End.{End}
 use Rattle.txn_drive.specs.Drives.{new_drive, sized_of, step_of, told_of, end_of}
-use Rattle.boost_core.specs.State.{State, seat_in, is_set}
+use Rattle.boost_core.specs.State.{State, stance_in, is_set}
 use Rattle.boost_core.specs.Answers.{is_at_end}
 use Rattle.boost_core.specs.Machine.{Happens, Moves}
 
@@ -57,10 +57,10 @@ Leaves false old c left = Happens old (Abort c) Answer.Leaving left
 abbrev pub Aborts : State → ℕ → Answer → State → Type 0
 Aborts old c Answer.Leaving new = ⊥
 Aborts old c Answer.Aborted new =
-    (left : State) × Leaves (is_at_end (seat_in old.history c).phase) old c left
+    (left : State) × Leaves (is_at_end (stance_in old.history c).phase) old c left
     × Ends left c Answer.Aborted new
 Aborts old c answer new =
-    (is_at_end (seat_in old.history c).phase ≡ false) × Happens old (Abort c) answer new
+    (is_at_end (stance_in old.history c).phase ≡ false) × Happens old (Abort c) answer new
 
 -- A drive makes this number of moves in a row. Each move takes the step that the drive names, given
 -- the table's size. The drive is then given the answer.

@@ -1,10 +1,10 @@
 -- PROMISES each-step-is-a-move-of-the-machine: refusal_of
 -- The refusals of each step, in the order in which they are tested.
 pub use Rattle.map_ops.specs.Jobs.{takes_node}
-pub use Rattle.txn_words.specs.Seats.{is_closed, is_waiting, is_leaving, has_job, has_target, unready_tests, tests_in, first_of, refusal_in}
+pub use Rattle.txn_words.specs.Stances.{is_closed, is_waiting, is_leaving, has_job, has_target, unready_tests, tests_in, first_of, refusal_in}
 use Rattle.std.specs.Prelude.{ℕ, ◌^◌, ◌-◌, Bool, true, false, not, ◌==◌, ◌&&◌, ◌||◌, nat_le, IsTrue, is_some, List, [], ◌∷◌, ◌++◌, Option, Some, None}
-use Rattle.boost_core.specs.Vocabulary.{Op, Step, Begin, Ask, Seek, Act, Save, Back, Commit, Abort, Sweep, InitSeek, InitLink, InitStore, Double, Refusal, NoSuchCaller, Unplaced, NoSuchBucket, ParentMissing, NoSuchHelper, HelperOutOfOrder, NoMemory, StampsUsedUp, Seat, parent_of, LacksSegment}
-use Rattle.boost_core.specs.State.{State, Owner, Caller, Helper, Help, Sought, Dummy, seat_in, caller_changes, help_in, is_set, bucket_of}
+use Rattle.boost_core.specs.Vocabulary.{Op, Step, Begin, Ask, Seek, Act, Save, Back, Commit, Abort, Sweep, InitSeek, InitLink, InitStore, Double, Refusal, NoSuchCaller, Unplaced, NoSuchBucket, ParentMissing, NoSuchHelper, HelperOutOfOrder, NoMemory, StampsUsedUp, Stance, parent_of, LacksSegment}
+use Rattle.boost_core.specs.State.{State, Owner, Caller, Helper, Help, Sought, Dummy, stance_in, caller_changes, help_in, is_set, bucket_of}
 
 -- The owner of a step: its caller or its helper. `Sweep` and `Double` have no owner.
 abbrev pub owner_of : Step → Option Owner
@@ -24,13 +24,13 @@ owner_of (Double n) = None
 
 -- Whether a step needs a cursor that its caller does not have. The Boolean says whether the caller
 -- has a cursor.
-abbrev pub lacks_in : Seat → Bool → Step → Bool
-lacks_in seat there (Act c) = has_target seat && not there
-lacks_in seat there step = false
+abbrev pub lacks_in : Stance → Bool → Step → Bool
+lacks_in stance there (Act c) = has_target stance && not there
+lacks_in stance there step = false
 
 abbrev pub lacks_cursor : State → Step → Bool
 lacks_cursor state (Act c) =
-    lacks_in (seat_in state.history c) (is_some (caller_changes state.cursors c)) (Act c)
+    lacks_in (stance_in state.history c) (is_some (caller_changes state.cursors c)) (Act c)
 lacks_cursor state step = false
 
 abbrev pub has_cursor : Help → Bool
@@ -52,12 +52,12 @@ tests_at state help (InitStore h) = (not (holds_dummy help), HelperOutOfOrder) �
 tests_at state help step = []
 
 -- All tests of a step, in order. The first tests whether there is a caller or helper with the
--- step's number. The others test the caller's seat and cursor, or the helper and the buckets.
+-- step's number. The others test the caller's stance and cursor, or the helper and the buckets.
 abbrev pub tests_of : State → Option Owner → Step → List (Bool × Refusal)
 tests_of state None step = []
 tests_of state (Some (Caller c)) step =
     (nat_le state.limits.callers c, NoSuchCaller)
-    ∷ tests_in state.limits.half (seat_in state.history c) step
+    ∷ tests_in state.limits.half (stance_in state.history c) step
     ++ (lacks_cursor state step, Unplaced) ∷ []
 tests_of state (Some (Helper h)) step =
     (nat_le state.limits.callers h, NoSuchHelper) ∷ tests_at state (help_in state.helpers h) step

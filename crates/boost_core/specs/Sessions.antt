@@ -1,7 +1,7 @@
 -- A caller's side of the core, and the effects of the caller's steps on its side, on the table and
 -- on the locks.
 use Rattle.std.specs.Prelude.{◌≡◌, ℕ, ◌+◌, ◌<◌, ◌^◌, ◌≤◌, ◌⊎◌, ◌∷◌, is_some, ◌++◌, Bool, true, false, List, [], Option, Some, None, length, map, reverse, take, option_to_list}
-use Rattle.boost_core.specs.Vocabulary.{Op, Step, Begin, Ask, Seek, Act, Save, Back, Commit, Abort, Answer, NoMemory, StaleWord, Map, get, key_of, set_at, owed_in, stripe_of, Phase, Waiting, LeavingTo, LeavingToEnd, Seat, closed_seat, is_leaving, has_job, has_target, refusal_in, Grants, Refuses, Releases, IsSound, MapJob, PendingAt, takes_node, key_of_job, value_before, spare_of_job, IsDue, TableAt, Cursor, SpareAt, KeepsNodes, content, IsPlaced, fits, last_of, Does, OwnsIf, Places, SeeksNear, Prepares, IsRefused, GivesBack, TakesBack}
+use Rattle.boost_core.specs.Vocabulary.{Op, Step, Begin, Ask, Seek, Act, Save, Back, Commit, Abort, Answer, NoMemory, StaleWord, Map, get, key_of, set_at, owed_in, stripe_of, Phase, Waiting, LeavingTo, LeavingToEnd, Stance, closed_stance, is_leaving, has_job, has_target, refusal_in, Grants, Refuses, Releases, IsSound, MapJob, PendingAt, takes_node, key_of_job, value_before, spare_of_job, IsDue, TableAt, Cursor, SpareAt, KeepsNodes, content, IsPlaced, fits, last_of, Does, OwnsIf, Places, SeeksNear, Prepares, IsRefused, GivesBack, TakesBack}
 use Rattle.undo_log.specs.UndoLog.{LogAt, kept_at, newest_above}
 use Rattle.map_ops.specs.Nodes.{OpWrites, JobWrites}
 use Rattle.boost_core.specs.declared.counts.Counts.{Counts}
@@ -11,10 +11,10 @@ use Rattle.boost_core.specs.Words.{Claim, Lock, Right, Held, Stale}
 use Rattle.boost_core.specs.Refusals.{owner_of, lacks_in}
 use Rattle.boost_core.specs.Spares.{times_of, times_in, IsCoveredWith, StaysCovered}
 
--- A caller's side without its room: the seat, the operation that waits, the cursor, and the jobs
+-- A caller's side without its room: the stance, the operation that waits, the cursor, and the jobs
 -- and savepoints of the log.
 pub record Side : Type 0 where
-  pub seat : Seat
+  pub stance : Stance
   pub pending : Option PendingAt
   pub cursor : Option Cursor
   pub jobs : List MapJob
@@ -22,7 +22,7 @@ pub record Side : Type 0 where
 
 abbrev pub side_of : Session → Side
 side_of s = record {
-  seat = s.seat.seat;
+  stance = s.stance.stance;
   pending = s.pending;
   cursor = s.cursor;
   jobs = s.log.jobs;
@@ -37,11 +37,11 @@ level_of phase = 0
 
 -- How many entries the caller may still add without a new reservation.
 abbrev pub owed_of : Session → ℕ
-owed_of s = owed_in s.seat.seat.standing s.seat.seat.phase
+owed_of s = owed_in s.stance.stance.standing s.stance.stance.phase
 
 abbrev pub IsIdle : Session → Type 0
 IsIdle s =
-    side_of s ≡ record { seat = closed_seat; pending = None; cursor = None; jobs = []; kept = [] }
+    side_of s ≡ record { stance = closed_stance; pending = None; cursor = None; jobs = []; kept = [] }
 
 -- An operation waits exactly if the phase is `Waiting` with this operation. The log then has room
 -- for the operation's job, and the operation has a spare exactly if it takes a node.
@@ -52,12 +52,12 @@ Waits (Waiting op) None room = ⊥
 Waits phase (Some pending) room = ⊥
 Waits phase None room = Unit {0}
 
--- The seat, the waiting operation and the log of a caller agree. `room` is the room of the log.
+-- The stance, the waiting operation and the log of a caller agree. `room` is the room of the log.
 pub record Agrees (side : Side) (room : ℕ) : Type 0 where
-  pub standing : side.seat.standing ≡ length side.jobs
-  pub kept : side.seat.kept ≡ 0 ∷ side.kept
-  pub waits : Waits side.seat.phase side.pending room
-  pub level : level_of side.seat.phase ≤ length side.kept
+  pub standing : side.stance.standing ≡ length side.jobs
+  pub kept : side.stance.kept ≡ 0 ∷ side.kept
+  pub waits : Waits side.stance.phase side.pending room
+  pub level : level_of side.stance.phase ≤ length side.kept
 
 abbrev pub key_of_newest : Option MapJob → Option ℕ
 key_of_newest None = None
@@ -71,7 +71,7 @@ target_in LeavingToEnd log = key_of_newest (newest_above log 0)
 target_in phase log = None
 
 abbrev pub target_of : Session → Option ℕ
-target_of s = target_in s.seat.seat.phase s.log
+target_of s = target_in s.stance.stance.phase s.log
 
 abbrev pub spare_if : Option PendingAt → Option SpareAt
 spare_if None = None
@@ -205,10 +205,10 @@ pub record DoesIn (s : Session) (t : TableAt) (reply : Option ℕ) (s' : Session
 -- The newest change above the level may be taken back: the cursor was placed for its key, its job
 -- is due, and the table owns the job's spare, if it has one.
 pub record CanUndo (s : Session) (t : TableAt) : Type 0 where
-  pub level : level_of s.seat.seat.phase ≤ length s.log.kept
+  pub level : level_of s.stance.stance.phase ≤ length s.log.kept
   pub job : MapJob
   pub cursor : Cursor
-  pub newest : newest_above s.log (level_of s.seat.seat.phase) ≡ Some job
+  pub newest : newest_above s.log (level_of s.stance.stance.phase) ≡ Some job
   pub had : s.cursor ≡ Some cursor
   pub placed : IsPlaced t cursor (key_of_job job)
   pub due : IsDue (content t) job
@@ -227,26 +227,26 @@ pub record TakesBackIn (s : Session) (t : TableAt) (s' : Session) (t' : TableAt)
 
 -- The caller is taking changes back, and no change above its level remains.
 pub record CanArrive (s : Session) : Type 0 where
-  pub leaves : is_leaving s.seat.seat.phase ≡ true
-  pub level : level_of s.seat.seat.phase ≤ length s.log.kept
-  pub none_above : length s.log.jobs ≤ kept_at s.log.kept (level_of s.seat.seat.phase)
+  pub leaves : is_leaving s.stance.stance.phase ≡ true
+  pub level : level_of s.stance.stance.phase ≤ length s.log.kept
+  pub none_above : length s.log.jobs ≤ kept_at s.log.kept (level_of s.stance.stance.phase)
 
 -- The caller has returned to its level. The later savepoints are dropped.
 pub record ReturnsIn (n : ℕ) (s s' : Session) : Type 0 where
-  pub phase : s.seat.seat.phase ≡ LeavingTo n
+  pub phase : s.stance.stance.phase ≡ LeavingTo n
   pub becomes : side_of s' ≡ record (side_of s) { kept = take n s.log.kept }
 
 -- The caller's abort has ended. Its savepoints are dropped, and its stripes are free.
 pub record EndsIn (c : ℕ) (s : Session) (locks : List (Option ℕ)) (s' : Session)
     (locks' : List (Option ℕ)) : Type 0 where
-  pub phase : s.seat.seat.phase ≡ LeavingToEnd
+  pub phase : s.stance.stance.phase ≡ LeavingToEnd
   pub becomes : side_of s' ≡ record (side_of s) { kept = [] }
   pub releases : Releases c locks locks'
 
--- A savepoint is set, and the seat has room for it.
+-- A savepoint is set, and the stance has room for it.
 pub record SavesIn (n : ℕ) (s s' : Session) : Type 0 where
   pub number : n ≡ length s.log.kept + 1
-  pub room : 0 < s'.seat.room
+  pub room : 0 < s'.stance.room
   pub becomes : side_of s' ≡ record (side_of s) { kept = s.log.kept ++ length s.log.jobs ∷ [] }
 
 -- The waiting operation is given up, and the caller's cursor is dropped.
@@ -312,18 +312,18 @@ Arrives c s locks answer s' locks' = ⊥
 -- The answer to the step `Act`, and the effect of the step.
 abbrev pub ActsIn : ℕ → Reach → Answer → Reach → Type 0
 ActsIn c old Answer.Again new =
-    (has_target old.session.seat.seat ≡ true) × Drops old.session old.table new.session
+    (has_target old.session.stance.stance ≡ true) × Drops old.session old.table new.session
     × (new ≡ record old { session = new.session })
 ActsIn c old (Answer.Done reply) new =
     DoesIn old.session old.table reply new.session new.table × (new.locks ≡ old.locks)
 ActsIn c old Answer.Undone new =
-    (has_job old.session.seat.seat ≡ true)
+    (has_job old.session.stance.stance ≡ true)
     × TakesBackIn old.session old.table new.session new.table × (new.locks ≡ old.locks)
 ActsIn c old (Answer.Returned n) new =
-    (has_job old.session.seat.seat ≡ false) × ReturnsIn n old.session new.session
+    (has_job old.session.stance.stance ≡ false) × ReturnsIn n old.session new.session
     × (new ≡ record old { session = new.session })
 ActsIn c old Answer.Aborted new =
-    (has_job old.session.seat.seat ≡ false)
+    (has_job old.session.stance.stance ≡ false)
     × EndsIn c old.session old.locks new.session new.locks × (new.table ≡ old.table)
 ActsIn c old answer new = ⊥
 
@@ -331,8 +331,8 @@ ActsIn c old answer new = ⊥
 -- side agrees with the table, and the numbers are within their bounds.
 pub record MayTakeStep (stripes : ℕ) (counts : Counts) (step : Step) (old : Reach) : Type 0 where
   pub goes : GoesWith old.session old.table
-  pub free : (half : Bool) × (refusal_in half old.session.seat.seat step ≡ None)
-  pub placed : lacks_in old.session.seat.seat (is_some old.session.cursor) step ≡ false
+  pub free : (half : Bool) × (refusal_in half old.session.stance.stance step ≡ None)
+  pub placed : lacks_in old.session.stance.stance (is_some old.session.cursor) step ≡ false
   pub owner : (c : ℕ) × (owner_of step ≡ Some (Caller c))
   pub caller : (c : ℕ) → owner_of step ≡ Some (Caller c) → c < 64
   pub many : length old.locks ≡ stripes
@@ -341,7 +341,7 @@ pub record MayTakeStep (stripes : ℕ) (counts : Counts) (step : Step) (old : Re
   pub commits : counts.committed < 2 ^ 63
 
 -- The effect of a caller's step. It depends on the answer and, for the step `Ask`, on the claim. Of
--- the seat, only the room may change: the step's entry is added to the seat afterwards.
+-- the stance, only the room may change: the step's entry is added to the stance afterwards.
 abbrev pub HasEffect : Claim → ℕ → Counts → Step → Reach → Answer → Reach → Type 0
 HasEffect claim stripes counts (Begin c) old (Answer.Began n) new =
     (n ≡ counts.began + 1) × (new ≡ old)

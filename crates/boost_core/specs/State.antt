@@ -4,7 +4,7 @@ pub use Rattle.map_ops.specs.TableAt.{Help, Nothing, Sought, Dummy}
 pub use Rattle.boost_core.specs.declared.owner.Owner.{Owner}
 pub use Rattle.boost_core.specs.declared.owner.Owner.TheVariants.{Caller, Helper}
 pub use Rattle.split_key.specs.declared.sort.SortKey.{SortKey}
-use Rattle.boost_core.specs.Vocabulary.{dummy_at, Entry, Now, Begun, Sizes, Seat, closed_seat, seat_after, own}
+use Rattle.boost_core.specs.Vocabulary.{dummy_at, Entry, Now, Begun, Sizes, Stance, closed_stance, stance_after, own}
 use Rattle.std.specs.Prelude.{ℕ, ◌-◌, Bool, true, false, List, [], ◌∷◌, Option, Some, None, replicate, slice_get, slice_set, unwrap_or}
 use Rattle.txn_words.specs.declared.holder.Holder.{Holder}
 
@@ -75,10 +75,10 @@ abbrev pub holder_by : Bool → Holder
 holder_by false = Now
 holder_by true = Begun
 
--- The seat of a caller, computed from the caller's entries in the history: its phase, its standing
+-- The stance of a caller, computed from the caller's entries in the history: its phase, its standing
 -- changes and its savepoints.
-abbrev pub seat_in : List Entry → ℕ → Seat
-seat_in history c = unwrap_or (seat_after (own c history)) closed_seat
+abbrev pub stance_in : List Entry → ℕ → Stance
+stance_in history c = unwrap_or (stance_after (own c history)) closed_stance
 
 -- The change number that a caller's cursor noted, if the caller has a cursor.
 abbrev pub caller_changes : List (Option ℕ) → ℕ → Option ℕ

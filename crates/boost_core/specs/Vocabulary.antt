@@ -17,8 +17,8 @@ pub use Rattle.txn_trace.specs.Now.{now}
 pub use Rattle.txn_words.specs.Kinds.{caller_of, is_began, is_commit}
 pub use Rattle.txn_words.specs.Map.{Map, count_of, get, key_of, reply_of, set_at}
 pub use Rattle.txn_words.specs.Owed.{owed_in, reserved}
-pub use Rattle.txn_words.specs.Seats.{has_job, has_target, is_leaving, is_saved, refusal_in}
-pub use Rattle.txn_words.specs.Shape.{RoomySeat, Seat, closed_seat, how_many, own, row, seat_after}
+pub use Rattle.txn_words.specs.Stances.{has_job, has_target, is_leaving, is_saved, refusal_in}
+pub use Rattle.txn_words.specs.Shape.{RoomyStance, Stance, closed_stance, how_many, own, row, stance_after}
 pub use Rattle.txn_words.specs.Sizes.{Sizes}
 pub use Rattle.txn_words.specs.declared.answer.Answer.{Answer}
 pub use Rattle.txn_words.specs.declared.entry.Entry.{Entry}
@@ -26,7 +26,7 @@ pub use Rattle.txn_words.specs.declared.holder.Holder.TheVariants.{Begun, Now}
 pub use Rattle.txn_words.specs.declared.op.Op.{Op}
 pub use Rattle.txn_words.specs.declared.refusal.Refusal.{Refusal}
 pub use Rattle.txn_words.specs.declared.refusal.Refusal.TheVariants.{BadKey, HelperOutOfOrder, NoMemory, NoSuchBucket, NoSuchCaller, NoSuchHelper, ParentMissing, StaleWord, StampsUsedUp, Unplaced}
-pub use Rattle.txn_words.specs.declared.seat.Phase.{Phase}
-pub use Rattle.txn_words.specs.declared.seat.Phase.TheVariants.{LeavingTo, LeavingToEnd, Waiting}
+pub use Rattle.txn_words.specs.declared.stance.Phase.{Phase}
+pub use Rattle.txn_words.specs.declared.stance.Phase.TheVariants.{LeavingTo, LeavingToEnd, Waiting}
 pub use Rattle.txn_words.specs.declared.step.Step.{Step}
 pub use Rattle.txn_words.specs.declared.step.Step.TheVariants.{Abort, Act, Ask, Back, Begin, Commit, Double, InitLink, InitSeek, InitStore, Save, Seek, Sweep}

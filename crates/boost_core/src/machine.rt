@@ -214,7 +214,7 @@ impl Core {
             &mut self.locks,
         );
         let entry = entry_of(step, answer);
-        self.owed = add(&mut session.seat, &mut self.history, self.owed, entry);
+        self.owed = add(&mut session.stance, &mut self.history, self.owed, entry);
         note_begun(&mut self.begun, entry);
         self.counts = self.counts.after(answer);
         self.placed = placed_after(self.placed, step, answer);
@@ -368,7 +368,7 @@ impl Core {
             return Some(Refusal::NoSuchCaller);
         }
         let session = &self.sessions[caller as usize];
-        let refusal = session.seat.refusal(self.limits, step);
+        let refusal = session.stance.refusal(self.limits, step);
         if refusal.is_some() {
             return refusal;
         }

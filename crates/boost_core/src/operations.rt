@@ -14,7 +14,7 @@ use txn_trace::{Answer, Op, Phase, Refusal};
 use undo_log::UndoLog;
 
 impl Session {
-    ghost use Rattle.txn_words.specs.Seats.{has_target, is_waiting, is_leaving};
+    ghost use Rattle.txn_words.specs.Stances.{has_target, is_waiting, is_leaving};
     ghost use Rattle.boost_core.specs.Sessions.{AsksBy, GoesWith, IsAsked, SeeksIn, ActsIn, Replies, Undoes, Arrives, CanAct, CanUndo, CanArrive, reach, side_of};
     ghost use Rattle.map_ops.specs.Changes.{Prepares, IsRefused};
 
@@ -97,7 +97,7 @@ impl Session {
     /// Seeks the position of the key that the caller acts on next.
     pub(crate) fn seek(&mut self, table: &mut Table) -> Answer
         requires goes { GoesWith self.old table.old }
-        requires target { has_target self.old.seat.seat ≡ true }
+        requires target { has_target self.old.stance.stance ≡ true }
         ensures answer { result ≡ Answer.Placed }
         ensures seeks { SeeksIn self.old table.old self.new table.new }
         ensures rises { table_changes table.old ≤ table_changes table.new }
@@ -115,9 +115,9 @@ impl Session {
     pub(crate) fn act(&mut self, caller: usize, table: &mut Table, locks: &mut KeyLocks) -> Answer
         requires caller { caller < 64 }
         requires goes { GoesWith self.old table.old }
-        requires free { (is_leaving self.old.seat.seat.phase || is_waiting self.old.seat.seat.phase)
+        requires free { (is_leaving self.old.stance.stance.phase || is_waiting self.old.stance.stance.phase)
             ≡ true }
-        requires placed { (has_target self.old.seat.seat && not (is_some self.old.cursor)) ≡ false }
+        requires placed { (has_target self.old.stance.stance && not (is_some self.old.cursor)) ≡ false }
         ensures acts { ActsIn caller (reach self.old table.old locks.old) result
             (reach self.new table.new locks.new) }
         ensures rises { table_changes table.old ≤ table_changes table.new }
@@ -125,7 +125,7 @@ impl Session {
     {
         if self.pending.is_some() {
             self.reply(table)
-        } else if self.seat.has_job() {
+        } else if self.stance.has_job() {
             self.undo(table)
         } else {
             self.arrive(caller, locks)
@@ -186,7 +186,7 @@ impl Session {
     {
         let level = self.level();
         self.log.cut(level);
-        match self.seat.phase() {
+        match self.stance.phase() {
             Phase::LeavingTo(level) => Answer::Returned(level),
             _ => {
                 locks.release_all(caller);

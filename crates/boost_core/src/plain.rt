@@ -14,7 +14,7 @@ impl Core {
     ghost use Rattle.boost_core.specs.Answers.{end_answer, is_at_end};
     ghost use Rattle.boost_core.specs.Plain.{Aborts, Ends, Helps, Operates, Returns};
     ghost use Rattle.boost_core.specs.Refusals.{has_job, is_leaving};
-    ghost use Rattle.boost_core.specs.State.{seat_in};
+    ghost use Rattle.boost_core.specs.State.{stance_in};
     ghost use Rattle.boost_core.specs.Whole.{IsWhole};
     ghost use Rattle.txn_drive.specs.Drives.{sized_of, step_of};
 
@@ -196,10 +196,10 @@ impl Core {
 
     /// Takes back the changes that are still to be undone, newest first, and ends the undoing.
     fn take_back(&mut self, caller: u64) -> Answer
-        requires leaves { is_leaving (seat_in self.old.history caller).phase ≡ true }
+        requires leaves { is_leaving (stance_in self.old.history caller).phase ≡ true }
         requires within { nat_le self.old.limits.callers caller ≡ false }
         ensures ends { Ends self.old caller result self.new }
-        ensures answer { result ≡ end_answer (seat_in self.old.history caller).phase }
+        ensures answer { result ≡ end_answer (stance_in self.old.history caller).phase }
         ensures words { self.new.words ≡ self.old.words }
     {
         while self.has_job(caller) {
@@ -211,17 +211,17 @@ impl Core {
 
     /// Returns true if a caller has a change to take back.
     fn has_job(&self, caller: u64) -> bool
-        ensures { result ≡ has_job (seat_in self.now.history caller) }
+        ensures { result ≡ has_job (stance_in self.now.history caller) }
     {
         match self.sessions.get(caller as usize) {
-            Some(session) => session.seat.has_job(),
+            Some(session) => session.stance.has_job(),
             None => false,
         }
     }
 
     /// Returns true if a caller is taking back all its changes.
     fn leaves_to_end(&self, caller: u64) -> bool
-        ensures value { result ≡ is_at_end (seat_in self.now.history caller).phase }
+        ensures value { result ≡ is_at_end (stance_in self.now.history caller).phase }
         ensures within { result ≡ true → nat_le self.now.limits.callers caller ≡ false }
     {
         match self.sessions.get(caller as usize) {

@@ -1,4 +1,4 @@
-//! A caller's side of the core: seat, waiting operation, cursor and log. A cursor belongs to the
+//! A caller's side of the core: stance, waiting operation, cursor and log. A cursor belongs to the
 //! waiting operation or to the newest change, so one field serves both. The steps that a side takes
 //! are in `operations.rt` and `transactions.rt`.
 ghost use Rattle.std.specs.Prelude.{◌≡◌, ◌+◌, ◌≤◌, ◌<◌, true, None, is_some, length};
@@ -8,14 +8,14 @@ use crate::counts::Counts;
 use key_locks::KeyLocks;
 use map_ops::{Cursor, MapJob, Pending, Table};
 use std::alloc::Global;
-use txn_trace::{Answer, Phase, Seat, Step};
+use txn_trace::{Answer, Phase, Stance, Step};
 use undo_log::UndoLog;
 
-/// A caller: its seat, its waiting operation, the cursor for this operation or for its newest
+/// A caller: its stance, its waiting operation, the cursor for this operation or for its newest
 /// change, and its log.
 #[derive(Drop)]
 pub struct Session {
-    pub(crate) seat: Seat,
+    pub(crate) stance: Stance,
     pub(crate) pending: Option<Pending>,
     pub(crate) cursor: Option<Cursor>,
     pub(crate) log: UndoLog<MapJob>,
@@ -32,7 +32,7 @@ impl Session {
         ensures { IsIdle result }
     {
         Session {
-            seat: Seat::new(alloc),
+            stance: Stance::new(alloc),
             pending: None,
             cursor: None,
             log: UndoLog::new(alloc),
@@ -42,33 +42,33 @@ impl Session {
     /// Returns true if this step needs a cursor that the caller does not have.
     #[inline(always)]
     pub(crate) fn lacks_cursor(&self, step: Step) -> bool
-        ensures { result ≡ lacks_in self.now.seat.seat (is_some self.now.cursor) step }
+        ensures { result ≡ lacks_in self.now.stance.stance (is_some self.now.cursor) step }
     {
         match step {
-            Step::Act(_) => self.seat.has_target() && !self.cursor.is_some(),
+            Step::Act(_) => self.stance.has_target() && !self.cursor.is_some(),
             _ => false,
         }
     }
 
     /// Returns true if the caller is taking back all its changes.
     pub(crate) fn leaves_to_end(&self) -> bool
-        ensures { result ≡ is_at_end self.now.seat.seat.phase }
+        ensures { result ≡ is_at_end self.now.stance.stance.phase }
     {
-        matches!(self.seat.phase(), Phase::LeavingToEnd)
+        matches!(self.stance.phase(), Phase::LeavingToEnd)
     }
 
     /// The level to which the caller takes its changes back; 0 in every phase but `LeavingTo`.
     pub(crate) fn level(&self) -> usize
-        ensures { result ≡ level_of self.now.seat.seat.phase }
+        ensures { result ≡ level_of self.now.stance.stance.phase }
     {
-        match self.seat.phase() {
+        match self.stance.phase() {
             Phase::LeavingTo(level) => level as usize,
             _ => 0,
         }
     }
 
-    /// Takes a step of this caller that no test refuses. The seat is unchanged except for its room,
-    /// because the step's entry is added to the seat afterwards.
+    /// Takes a step of this caller that no test refuses. The stance is unchanged except for its room,
+    /// because the step's entry is added to the stance afterwards.
     #[inline(always)]
     pub(crate) fn answer(
         &mut self,

@@ -12,11 +12,11 @@ impl Session {
     ghost use Rattle.boost_core.specs.Sessions.{CanSettle, Saves, SettlesIn, WithdrawsIn, spare_if};
     ghost use Rattle.map_ops.specs.Changes.{OwnsIf};
 
-    /// Sets a savepoint in the log, and makes room for it in the seat.
+    /// Sets a savepoint in the log, and makes room for it in the stance.
     pub(crate) fn save(&mut self) -> Answer
         ensures { Saves self.old result self.new }
     {
-        if self.seat.reserve_level().is_err() {
+        if self.stance.reserve_level().is_err() {
             return Answer::Refused(Refusal::NoMemory);
         }
         match self.log.save() {

@@ -1,7 +1,7 @@
 // PROMISES from-words-and-bytes-to-bytes: run
-//! A whole call of the program, with the engine of `run` in threads. The other engines, and what
+//! A whole run of the program, with the engine of `run` in threads. The other engines, and what
 //! happens before and after an engine, are in `unthreaded_program`. The system and both outputs are
-//! type parameters, so that contracts and tests cover the whole call.
+//! type parameters, so that contracts and tests cover the whole run.
 ghost use Rattle.std.specs.Prelude.{◌≡◌};
 ghost use Rattle.boostmap_program.specs.Threaded.{RunsThreads};
 ghost use Rattle.unthreaded_program.specs.Runs.{RunsCommand, HasExited, Runs, TellsError};
@@ -37,7 +37,7 @@ fn run_command<T: Threads + Wait + Sync, R: Read, W: Write>(
     }
 }
 
-/// Reads the words, opens the file that they name, and runs the engine that they ask for.
+/// Reads the words, opens the file that it names, and runs the engine that they ask for.
 fn run_words<T: Threads + Wait + Sync, S: System, W: Write>(
     rt: &T,
     alloc: Global,
@@ -51,7 +51,7 @@ fn run_words<T: Threads + Wait + Sync, S: System, W: Write>(
     run_command(rt, alloc, opened.command, &mut opened.input, output)
 }
 
-/// Does all that the program does: reads the words of the call, opens the file that they name, and
+/// Does all that the program does: reads the command line, opens the file that it names, and
 /// runs the engine of the command on this file. The engine writes to `output`. The line of a fault
 /// is written to `errors`. If this write fails, nothing else changes. Only the command `run` starts
 /// threads, with `rt`.

@@ -1,10 +1,10 @@
-//! Tests of `txn_words`, the vocabulary of transactions: numbers, texts, limits and seats. The
+//! Tests of `txn_words`, the vocabulary of transactions: numbers, texts, limits and stances. The
 //! tables were written by hand and test what the definitions in its contracts mean. The contracts
-//! allow a seat to refuse room for a savepoint. One test checks that the next try succeeds.
+//! allow a stance to refuse room for a savepoint. One test checks that the next try succeeds.
 use std::alloc::{AllocError, Global};
 use std::process::Abort;
 use std::test::Fail;
-use txn_words::{Answer, Entry, Limits, Op, Refusal, Seat, Step, answer_text};
+use txn_words::{Answer, Entry, Limits, Op, Refusal, Stance, Step, answer_text};
 
 /// Each row has an answer and its text.
 const ANSWERS: [(Answer, &str); 26] = [
@@ -137,22 +137,25 @@ const OUT_OF_RANGE: [(u64, u64, u64); 10] = [
     (1, 0x1_0000_0001, 8),
 ];
 
-/// A seat with an open transaction.
-fn open_seat(rt: &impl Abort, alloc: Global) -> Seat {
-    let mut seat = Seat::new(alloc);
-    assert!(rt; seat.standing() == 0);
-    assert!(rt; seat.enter(Entry::Began(0, 1)));
-    seat
+/// A stance with an open transaction.
+fn open_stance(rt: &impl Abort, alloc: Global) -> Stance {
+    let mut stance = Stance::new(alloc);
+    assert!(rt; stance.standing() == 0);
+    assert!(rt; stance.enter(Entry::Began(0, 1)));
+    stance
 }
 
-/// How a get of this key is refused at a seat with an open transaction. The first refusal is for
+/// How a get of this key is refused at a stance with an open transaction. The first refusal is for
 /// limits that allow every key, and the second is for limits that allow only half keys.
-fn refusals_of_key(seat: &Seat, key: u64) -> Result<(Option<Refusal>, Option<Refusal>), Refusal> {
+fn refusals_of_key(
+    stance: &Stance,
+    key: u64,
+) -> Result<(Option<Refusal>, Option<Refusal>), Refusal> {
     let every = Limits::new(2, 8, 8)?;
     let ask = Step::Ask(0, Op::Get(key));
     Ok((
-        seat.refusal(every, ask),
-        seat.refusal(every.half_keys(), ask),
+        stance.refusal(every, ask),
+        stance.refusal(every.half_keys(), ask),
     ))
 }
 
@@ -179,9 +182,17 @@ fn limits_are(rt: &impl Abort, rows: &[(u64, u64, u64)], are_in_range: bool) {
 
 /// For each row, checks how a get of its key is refused. Limits that allow every key must not
 /// refuse it.
-fn keys_are(rt: &impl Abort, seat: &Seat, rows: &[(u64, Option<Refusal>)]) -> Result<(), Refusal> {
+fn keys_are(
+    rt: &impl Abort,
+    stance: &Stance,
+    rows: &[(u64, Option<Refusal>)],
+) -> Result<(), Refusal> {
     for (key, half) in rows {
-        assert_eq!(rt; refusals_of_key(seat, *key)?, (None, *half), "of key {key}");
+        assert_eq!(rt;
+            refusals_of_key(stance, *key)?,
+            (None, *half),
+            "of key {key}"
+        );
     }
     Ok(())
 }
@@ -190,40 +201,40 @@ fn keys_are(rt: &impl Abort, seat: &Seat, rows: &[(u64, Option<Refusal>)]) -> Re
 fn limits_and_keys(rt: HostRuntime) -> Result<(), Fail> {
     limits_are(&rt, &IN_RANGE, true);
     limits_are(&rt, &OUT_OF_RANGE, false);
-    let seat = open_seat(&rt, rt.alloc());
-    keys_are(&rt, &seat, &KEYS)?;
+    let stance = open_stance(&rt, rt.alloc());
+    keys_are(&rt, &stance, &KEYS)?;
     Ok(())
 }
 
 /// The number of savepoints.
-fn levels_of(seat: &Seat) -> u64 {
-    seat.levels()
+fn levels_of(stance: &Stance) -> u64 {
+    stance.levels()
 }
 
 /// Makes room for a savepoint and sets it.
-fn save(rt: &impl Abort, seat: &mut Seat) -> Result<(), AllocError> {
-    seat.reserve_level()?;
-    assert!(rt; seat.standing() == 0);
-    assert!(rt; seat.enter(Entry::Saved(0)));
+fn save(rt: &impl Abort, stance: &mut Stance) -> Result<(), AllocError> {
+    stance.reserve_level()?;
+    assert!(rt; stance.standing() == 0);
+    assert!(rt; stance.enter(Entry::Saved(0)));
     Ok(())
 }
 
-/// This test is meant to be run with each allocation refused in turn. A refusal leaves the seat
+/// This test is meant to be run with each allocation refused in turn. A refusal leaves the stance
 /// unchanged, and the next try succeeds.
 #[test]
 fn savepoints_without_memory(rt: HostRuntime) -> Result<(), Fail> {
-    save_nine(&rt, &mut open_seat(&rt, rt.alloc()))
+    save_nine(&rt, &mut open_stance(&rt, rt.alloc()))
 }
 
 /// Sets nine savepoints.
-fn save_nine(rt: &impl Abort, seat: &mut Seat) -> Result<(), Fail> {
+fn save_nine(rt: &impl Abort, stance: &mut Stance) -> Result<(), Fail> {
     for level in 0..9 {
-        assert_eq!(rt; levels_of(seat), level);
-        if save(rt, seat).is_err() {
-            assert_eq!(rt; levels_of(seat), level, "no memory, no savepoint");
-            save(rt, seat)?;
+        assert_eq!(rt; levels_of(stance), level);
+        if save(rt, stance).is_err() {
+            assert_eq!(rt; levels_of(stance), level, "no memory, no savepoint");
+            save(rt, stance)?;
         }
     }
-    assert_eq!(rt; levels_of(seat), 9);
+    assert_eq!(rt; levels_of(stance), 9);
     Ok(())
 }

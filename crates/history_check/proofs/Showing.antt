@@ -7,7 +7,7 @@ use Rattle.txn_words.specs.declared.entry.Entry.TheVariants.{Began, Asked, Did, 
 use Rattle.txn_words.specs.Map.{Map}
 use Rattle.txn_trace.specs.Locks.{holder_of, is_locked}
 use Rattle.txn_trace.specs.Now.{now}
-use Rattle.txn_words.specs.Shape.{Seat, is_shaped}
+use Rattle.txn_words.specs.Shape.{Stance, is_shaped}
 use Rattle.txn_trace.specs.Legal.{IsLegal, replies_hold, broken}
 use Rattle.txn_trace.proofs.EntrySteps.{Next}
 use Rattle.key_locks.specs.Locks as locks
@@ -15,7 +15,7 @@ use Rattle.history_check.specs.declared.live_map.LiveMap.{LiveMap}
 use Rattle.history_check.specs.LiveMaps.{Shows, FollowsAt}
 use Rattle.history_check.specs.Remainders.{Have}
 use Rattle.history_check.proofs.EntryKinds.{broken_by, next-began, next-busy, next-saved, next-leave, next-returned}
-use Rattle.history_check.proofs.CallerTable.{seat_there}
+use Rattle.history_check.proofs.CallerTable.{stance_there}
 
 module _ {holder : Holder} (stripes : ℕ) (h : List Entry) (legal : IsLegal holder stripes h) (live : LiveMap) (shows : Shows holder stripes h live) (e : Entry) (shaped : is_shaped h e ≡ true) (answered : replies_hold (h ++ e ∷ []) ≡ true) where
   -- If an entry with the right shape and the right reply also keeps the rule of locks, it breaks no
@@ -25,9 +25,9 @@ module _ {holder : Holder} (stripes : ℕ) (h : List Entry) (legal : IsLegal hol
 
   -- If a live map has the values and holders that `Next` gives for the entry, it shows the history
   -- with the entry added.
-  pub followed : (new : LiveMap) (seat : Seat) (log : List (ℕ × Option ℕ)) (committed current : Map) (held : ℕ → Option ℕ) → is_locked holder stripes h e ≡ true → Next holder stripes h e seat log committed current held
+  pub followed : (new : LiveMap) (stance : Stance) (log : List (ℕ × Option ℕ)) (committed current : Map) (held : ℕ → Option ℕ) → is_locked holder stripes h e ≡ true → Next holder stripes h e stance log committed current held
       → new.holder ≡ live.holder → new.stripes ≡ live.stripes → Have current new.values → ((s : ℕ) → s < stripes → locks.holder_of new.locks s ≡ held s) → FollowsAt holder stripes h e true new
-  followed new seat log committed current held locked next holder_is stripes_are has holds = record {
+  followed new stance log committed current held locked next holder_is stripes_are has holds = record {
     locked = locked;
     shows = λ r. record {
       holder_is = holder_is ∙ shows.holder_is;
@@ -39,24 +39,24 @@ module _ {holder : Holder} (stripes : ℕ) (h : List Entry) (legal : IsLegal hol
 
   -- After an entry that changes neither the map nor the stripes, the unchanged live map shows the
   -- new history.
-  still : (seat : Seat) (log : List (ℕ × Option ℕ)) (committed : Map) (held : ℕ → Option ℕ) → is_locked holder stripes h e ≡ true → Next holder stripes h e seat log committed (now h) held → ((s : ℕ) → s < stripes → locks.holder_of live.locks s ≡ held s) → FollowsAt holder stripes h e true live
-  still seat log committed held locked next holds = followed live seat log committed (now h) held locked next refl refl shows.values holds
+  still : (stance : Stance) (log : List (ℕ × Option ℕ)) (committed : Map) (held : ℕ → Option ℕ) → is_locked holder stripes h e ≡ true → Next holder stripes h e stance log committed (now h) held → ((s : ℕ) → s < stripes → locks.holder_of live.locks s ≡ held s) → FollowsAt holder stripes h e true live
+  still stance log committed held locked next holds = followed live stance log committed (now h) held locked next refl refl shows.values holds
 
 pub followed_still : {holder : Holder} (stripes : ℕ) (h : List Entry) → IsLegal holder stripes h → (live : LiveMap) → Shows holder stripes h live → (e : Entry) → is_shaped h e ≡ true → replies_hold (h ++ e ∷ []) ≡ true
     → ((c : ℕ) (op : Op) → e ≡ Asked c op → ⊥) → ((c : ℕ) (op : Op) (x : ℕ) → e ≡ Busy c op x → ⊥) → ((c : ℕ) (r : Option ℕ) → e ≡ Did c r → ⊥) → ((c : ℕ) → e ≡ Undone c → ⊥) → ((c p : ℕ) → e ≡ Committed c p → ⊥) → ((c : ℕ) → e ≡ Aborted c → ⊥)
     → FollowsAt holder stripes h e true live
 followed_still stripes h legal live shows (Began c t) shaped answered _ _ _ _ _ _ =
-    let seat = seat_there h (Began c t) shaped in
-    still stripes h legal live shows (Began c t) shaped answered _ _ _ _ refl (next-began stripes h legal c seat.0 seat.1 t (fine stripes h legal live shows (Began c t) shaped answered refl)) shows.holders
+    let stance = stance_there h (Began c t) shaped in
+    still stripes h legal live shows (Began c t) shaped answered _ _ _ _ refl (next-began stripes h legal c stance.0 stance.1 t (fine stripes h legal live shows (Began c t) shaped answered refl)) shows.holders
 followed_still stripes h legal live shows (Saved c) shaped answered _ _ _ _ _ _ =
-    let seat = seat_there h (Saved c) shaped in
-    still stripes h legal live shows (Saved c) shaped answered _ _ _ _ refl (next-saved stripes h legal c seat.0 seat.1 (fine stripes h legal live shows (Saved c) shaped answered refl)) shows.holders
+    let stance = stance_there h (Saved c) shaped in
+    still stripes h legal live shows (Saved c) shaped answered _ _ _ _ refl (next-saved stripes h legal c stance.0 stance.1 (fine stripes h legal live shows (Saved c) shaped answered refl)) shows.holders
 followed_still stripes h legal live shows (Leave c n) shaped answered _ _ _ _ _ _ =
-    let seat = seat_there h (Leave c n) shaped in
-    still stripes h legal live shows (Leave c n) shaped answered _ _ _ _ refl (next-leave stripes h legal c seat.0 seat.1 n (fine stripes h legal live shows (Leave c n) shaped answered refl)) shows.holders
+    let stance = stance_there h (Leave c n) shaped in
+    still stripes h legal live shows (Leave c n) shaped answered _ _ _ _ refl (next-leave stripes h legal c stance.0 stance.1 n (fine stripes h legal live shows (Leave c n) shaped answered refl)) shows.holders
 followed_still stripes h legal live shows (Returned c n) shaped answered _ _ _ _ _ _ =
-    let seat = seat_there h (Returned c n) shaped in
-    still stripes h legal live shows (Returned c n) shaped answered _ _ _ _ refl (next-returned stripes h legal c seat.0 seat.1 n (fine stripes h legal live shows (Returned c n) shaped answered refl)) shows.holders
+    let stance = stance_there h (Returned c n) shaped in
+    still stripes h legal live shows (Returned c n) shaped answered _ _ _ _ refl (next-returned stripes h legal c stance.0 stance.1 n (fine stripes h legal live shows (Returned c n) shaped answered refl)) shows.holders
 followed_still stripes h legal live shows (Asked c op) shaped answered not_asked _ _ _ _ _ = absurd (not_asked c op refl)
 followed_still stripes h legal live shows (Busy c op x) shaped answered _ not_busy _ _ _ _ = absurd (not_busy c op x refl)
 followed_still stripes h legal live shows (Did c r) shaped answered _ _ not_did _ _ _ = absurd (not_did c r refl)
@@ -73,8 +73,8 @@ busy_followed stripes h legal live shows c op x shaped answered right new locked
   locked = locked;
   shows = λ r.
       let e = Busy c op x in
-      let seat = seat_there h e shaped in
-      let next = next-busy stripes h legal c seat.0 seat.1 op x (fine stripes h legal live shows e shaped answered (locked ∙ r)) in
+      let stance = stance_there h e shaped in
+      let next = next-busy stripes h legal c stance.0 stance.1 op x (fine stripes h legal live shows e shaped answered (locked ∙ r)) in
       (followed stripes h legal live shows e shaped answered new _ _ _ _ _ (locked ∙ r) next holder_is stripes_are has holds).shows refl;
 }
 

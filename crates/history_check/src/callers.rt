@@ -1,5 +1,5 @@
 //! The type `Callers`, which judges the rule of shape. The judge by locks and the judge by the
-//! order of commits both use it. The type keeps each caller's seat and changes, and how many
+//! order of commits both use it. The type keeps each caller's stance and changes, and how many
 //! transactions have begun and committed. An entry takes amortized constant time.
 ghost use Rattle.std.specs.Prelude.{◌≡◌, ℕ, ◌+◌, ◌<◌, ◌==◌, ◌++◌, [], ◌∷◌, List, length, true, slice_get, IfOk, OnOk, vec_len};
 ghost use Rattle.txn_words.specs.Kinds.{caller_of, is_began, is_commit};
@@ -11,7 +11,7 @@ use key_locks::CALLERS;
 use std::alloc::{AllocError, Global};
 use txn_trace::{Entry, Phase, Reply};
 
-/// The 64 callers of a history. Each has its seat, and the standing changes of its transaction. The
+/// The 64 callers of a history. Each has its stance, and the standing changes of its transaction. The
 /// type also counts how many transactions began and committed.
 ///
 /// This type is the judge of the rule of shape. `has_shape` returns true if an entry is allowed

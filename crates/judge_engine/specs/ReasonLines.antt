@@ -6,11 +6,11 @@ use Rattle.txn_words.specs.declared.entry.Entry.{Entry}
 use Rattle.txn_words.specs.declared.entry.Entry.TheVariants.{Asked, Busy, Did, Undone}
 use Rattle.txn_words.specs.declared.holder.Holder.{Holder}
 use Rattle.txn_words.specs.declared.holder.Holder.TheVariants.{Now, Begun}
-use Rattle.txn_words.specs.declared.seat.Phase.{Phase}
-use Rattle.txn_words.specs.declared.seat.Phase.TheVariants.{Closed, Opened, Waiting, LeavingTo, LeavingToEnd}
+use Rattle.txn_words.specs.declared.stance.Phase.{Phase}
+use Rattle.txn_words.specs.declared.stance.Phase.TheVariants.{Closed, Opened, Waiting, LeavingTo, LeavingToEnd}
 use Rattle.txn_words.specs.Kinds.{caller_of}
 use Rattle.txn_words.specs.Map.{key_of}
-use Rattle.txn_words.specs.Shape.{Seat, own, seat_after}
+use Rattle.txn_words.specs.Shape.{Stance, own, stance_after}
 use Rattle.txn_trace.specs.Log.{log_of}
 use Rattle.txn_files.specs.EntryLines.{line_of}
 use Rattle.bad_entry.specs.declared.change.Change.{Change}
@@ -70,9 +70,9 @@ abbrev pub is_waiting_on : ℕ → Phase → Bool
 is_waiting_on k (Waiting op) = key_of op == k
 is_waiting_on k phase = false
 
-abbrev pub seat_is_on : ℕ → Option Seat → Bool
-seat_is_on k None = false
-seat_is_on k (Some seat) = is_waiting_on k seat.phase
+abbrev pub stance_is_on : ℕ → Option Stance → Bool
+stance_is_on k None = false
+stance_is_on k (Some stance) = is_waiting_on k stance.phase
 
 -- Whether a change, given by its key and the value before it, is a change of the key.
 abbrev pub is_of_key : ℕ → Option (ℕ × Option ℕ) → Bool
@@ -84,7 +84,7 @@ is_of_key k (Some change) = change.0 == k
 abbrev pub is_on : ℕ → List Entry → Entry → Bool
 is_on k g (Asked c op) = key_of op == k
 is_on k g (Busy c op x) = key_of op == k
-is_on k g (Did c r) = seat_is_on k (seat_after (own c g))
+is_on k g (Did c r) = stance_is_on k (stance_after (own c g))
 is_on k g (Undone c) = is_of_key k (slice_get (log_of c g) 0)
 is_on k g e = false
 

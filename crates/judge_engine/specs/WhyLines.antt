@@ -12,8 +12,8 @@ use Rattle.bad_entry.specs.Desks.{txn_in, waiting_in}
 use Rattle.order_check.specs.declared.edge.Edge.{Edge}
 use Rattle.order_check.specs.declared.edge.Kind.{Kind}
 use Rattle.order_check.specs.declared.edge.Kind.TheVariants.{Read, Replaced, Began}
-use Rattle.judge_engine.specs.declared.order_why.Part.{Part}
-use Rattle.judge_engine.specs.declared.order_why.Part.TheVariants.{Whole, At, First, Last}
+use Rattle.judge_engine.specs.declared.order_why.Extent.{Extent}
+use Rattle.judge_engine.specs.declared.order_why.Extent.TheVariants.{Whole, At, First, Last}
 use Rattle.order_check.specs.declared.verdict.Reason.{Reason}
 use Rattle.order_check.specs.declared.verdict.Reason.TheVariants.{Shape, Torn, Unwritten, Impossible, Cycle}
 use Rattle.order_check.specs.declared.verdict.Verdict.{Verdict}
@@ -33,21 +33,21 @@ is_at k g (entries.Asked c op) = key_of op == k
 is_at k g (entries.Did c r) = waits_for k (waiting_in g c)
 is_at k g e = false
 
--- Whether the entry that follows `g` is in this part of its transaction.
-abbrev pub is_in_part : Part → List Entry → Entry → Bool
-is_in_part Whole g e = true
-is_in_part (At k) g e = is_at k g e
-is_in_part First g e = is_began e
-is_in_part Last g e = is_commit e
+-- Whether the entry that follows `g` is in this extent of its transaction.
+abbrev pub is_in_extent : Extent → List Entry → Entry → Bool
+is_in_extent Whole g e = true
+is_in_extent (At k) g e = is_at k g e
+is_in_extent First g e = is_began e
+is_in_extent Last g e = is_commit e
 
--- Whether the entry that follows `g` is of this transaction, and in this part of it.
-abbrev pub belongs : ℕ → Part → List Entry → Entry → Bool
-belongs t part g e =
-    option_eq nat_eq (txn_after (txn_in g) e (caller_of e)) (Some t) && is_in_part part g e
+-- Whether the entry that follows `g` is of this transaction, and in this extent of it.
+abbrev pub belongs : ℕ → Extent → List Entry → Entry → Bool
+belongs t extent g e =
+    option_eq nat_eq (txn_after (txn_in g) e (caller_of e)) (Some t) && is_in_extent extent g e
 
--- The entries of the transaction that are in this part of it.
-abbrev pub txn_lines : ℕ → Part → List Entry → List ℕ
-txn_lines t part h = lines_where (belongs t part) h
+-- The entries of the transaction that are in this extent of it.
+abbrev pub txn_lines : ℕ → Extent → List Entry → List ℕ
+txn_lines t extent h = lines_where (belongs t extent) h
 
 -- The caller of the transaction after one more entry, if it is known.
 abbrev pub beginner_after : ℕ → Option ℕ → Entry → Option ℕ
@@ -76,22 +76,22 @@ edge_heading h edge u =
 
 -- The parts of the two transactions that an edge is about: the entries on its key, or the end of the
 -- first transaction and the beginning of the second one.
-abbrev pub first_part : Kind → ℕ → Part
-first_part Read k = At k
-first_part Replaced k = At k
-first_part Began k = Last
+abbrev pub first_extent : Kind → ℕ → Extent
+first_extent Read k = At k
+first_extent Replaced k = At k
+first_extent Began k = Last
 
-abbrev pub second_part : Kind → ℕ → Part
-second_part Read k = At k
-second_part Replaced k = At k
-second_part Began k = First
+abbrev pub second_extent : Kind → ℕ → Extent
+second_extent Read k = At k
+second_extent Replaced k = At k
+second_extent Began k = First
 
 -- Why the first transaction of the edge comes before `u`, and the entries of both that it is about.
 abbrev pub edge_lines : List Entry → Edge → ℕ → List ℕ
 edge_lines h edge u =
     edge_heading h edge u
-    ++ (txn_lines edge.from (first_part edge.kind edge.key) h
-    ++ txn_lines u (second_part edge.kind edge.key) h)
+    ++ (txn_lines edge.from (first_extent edge.kind edge.key) h
+    ++ txn_lines u (second_extent edge.kind edge.key) h)
 
 -- ---- a transaction
 
@@ -99,14 +99,14 @@ abbrev pub key_words : Option ℕ → List ℕ
 key_words None = codes ":" ++ 10 ∷ []
 key_words (Some k) = codes " on key " ++ (decimal k ++ (codes ":" ++ 10 ∷ []))
 
-abbrev pub part_at : Option ℕ → Part
-part_at None = Whole
-part_at (Some k) = At k
+abbrev pub extent_at : Option ℕ → Extent
+extent_at None = Whole
+extent_at (Some k) = At k
 
 -- The entries of the transaction, on the key if one is given, below a line that names it.
 abbrev pub of_txn_lines : List Entry → ℕ → Option ℕ → List ℕ
 of_txn_lines h t at =
-    (codes "entries of " ++ (name_words h t ++ key_words at)) ++ txn_lines t (part_at at) h
+    (codes "entries of " ++ (name_words h t ++ key_words at)) ++ txn_lines t (extent_at at) h
 
 -- ---- the whole explanation
 

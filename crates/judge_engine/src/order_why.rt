@@ -8,8 +8,8 @@ ghost use Rattle.txn_words.specs.declared.entry.Entry.{Entry};
 ghost use Rattle.bad_entry.specs.Desks.{HaveNoted, IsDeskOf, waiting_in};
 ghost use Rattle.judge_engine.specs.OrderLines.{each_edge, from_or};
 ghost use Rattle.judge_engine.specs.WhyLines.{beginner_after, beginner_in, belongs, edge_heading};
-ghost use Rattle.judge_engine.specs.WhyLines.{edge_lines, first_part, is_at, is_in_part, misshapen_lines};
-ghost use Rattle.judge_engine.specs.WhyLines.{of_txn_lines, part_at, second_part, txn_lines};
+ghost use Rattle.judge_engine.specs.WhyLines.{edge_lines, first_extent, is_at, is_in_extent, misshapen_lines};
+ghost use Rattle.judge_engine.specs.WhyLines.{of_txn_lines, extent_at, second_extent, txn_lines};
 ghost use Rattle.judge_engine.specs.WhyLines.{waits_for, why_reason_lines};
 ghost use Rattle.judge_engine.specs.WhyLines.{why_verdict_lines};
 
@@ -39,9 +39,9 @@ impl fmt::Display for Named {
     }
 }
 
-/// A part of the entries of a transaction.
+/// Which entries of a transaction.
 #[derive(Clone, Copy)]
-pub(crate) enum Part {
+pub(crate) enum Extent {
     /// All entries.
     Whole,
     /// The requests at this key, with their replies.
@@ -114,17 +114,17 @@ fn is_at(key: u64, desk: Desk, entry: Entry) -> bool
     }
 }
 
-/// Whether an entry is in this part of its transaction. `desk` is the state of its caller before the
+/// Whether an entry is within this extent of its transaction. `desk` is the state of its caller before the
 /// entry.
-fn is_in_part(part: Part, desk: Desk, entry: Entry) -> bool
+fn is_in_extent(extent: Extent, desk: Desk, entry: Entry) -> bool
     ensures { (h : List Entry) → desk.waiting ≡ waiting_in h (caller_of entry) →
-        result ≡ is_in_part part h entry }
+        result ≡ is_in_extent extent h entry }
 {
-    match part {
-        Part::Whole => true,
-        Part::At(key) => is_at(key, desk, entry),
-        Part::First => is_began(entry),
-        Part::Last => is_committed(entry),
+    match extent {
+        Extent::Whole => true,
+        Extent::At(key) => is_at(key, desk, entry),
+        Extent::First => is_began(entry),
+        Extent::Last => is_committed(entry),
     }
 }
 
@@ -148,31 +148,31 @@ fn is_committed(entry: Entry) -> bool
     }
 }
 
-/// Whether an entry is of a transaction, and in this part of it. `desk` is the state of its caller
+/// Whether an entry is of a transaction, and within this extent. `desk` is the state of its caller
 /// before the entry.
-fn belongs(txn: u64, part: Part, desk: Desk, entry: Entry) -> bool
+fn belongs(txn: u64, extent: Extent, desk: Desk, entry: Entry) -> bool
     ensures { (h : List Entry) → IsDeskOf h (caller_of entry) desk →
-        result ≡ belongs txn part h entry }
+        result ≡ belongs txn extent h entry }
 {
-    next_txn(desk.txn, entry.caller(), entry) == Some(txn) && is_in_part(part, desk, entry)
+    next_txn(desk.txn, entry.caller(), entry) == Some(txn) && is_in_extent(extent, desk, entry)
 }
 
-/// Adds the entries of a transaction that are in this part of it.
+/// Adds the entries of a transaction that are within this extent.
 fn put_entries(
     alloc: Global,
     text: &mut String,
     entries: &[SmallEntry],
     txn: u64,
-    part: Part,
+    extent: Extent,
 ) -> Result<(), AllocError>
     requires { All (λ entry. caller_of entry < 64) entries.now }
     ensures { OnOk result (string_bytes text.new
-        ≡ string_bytes text.old ++ txn_lines txn part entries.now) }
+        ≡ string_bytes text.old ++ txn_lines txn extent entries.now) }
 {
     let mut desks = Desks::new(alloc)?;
     for (index, packed) in entries.iter().enumerate() {
         let entry = packed.entry();
-        let is_chosen = belongs(txn, part, desks.at(entry.caller()), entry);
+        let is_chosen = belongs(txn, extent, desks.at(entry.caller()), entry);
         put_if(alloc, text, is_chosen, index as u64, entry)?;
         desks.enter(entry);
     }
@@ -180,12 +180,12 @@ fn put_entries(
 }
 
 /// The entries on the key if one is given, else all.
-fn part_at(key: Option<u64>) -> Part
-    ensures { result ≡ part_at key }
+fn extent_at(key: Option<u64>) -> Extent
+    ensures { result ≡ extent_at key }
 {
     match key {
-        Some(key) => Part::At(key),
-        None => Part::Whole,
+        Some(key) => Extent::At(key),
+        None => Extent::Whole,
     }
 }
 
@@ -203,7 +203,7 @@ fn put_txn(
 {
     let name = Named(txn, beginner_in(entries, txn));
     write!(text, "entries of {name}{}", OnKey(key))?;
-    put_entries(alloc, text, entries, txn, part_at(key))
+    put_entries(alloc, text, entries, txn, extent_at(key))
 }
 
 /// Adds the line that says why the first transaction of an edge comes before another one.
@@ -227,25 +227,25 @@ fn put_heading(
     )
 }
 
-/// The part of the first transaction that an edge of this kind is about.
-fn first_part(kind: Kind, key: u64) -> Part
-    ensures { result ≡ first_part kind key }
+/// The extent of the first transaction that an edge of this kind is about.
+fn first_extent(kind: Kind, key: u64) -> Extent
+    ensures { result ≡ first_extent kind key }
 {
     match kind {
-        Kind::Read => Part::At(key),
-        Kind::Replaced => Part::At(key),
-        Kind::Began => Part::Last,
+        Kind::Read => Extent::At(key),
+        Kind::Replaced => Extent::At(key),
+        Kind::Began => Extent::Last,
     }
 }
 
-/// The part of the second transaction that an edge of this kind is about.
-fn second_part(kind: Kind, key: u64) -> Part
-    ensures { result ≡ second_part kind key }
+/// The extent of the second transaction that an edge of this kind is about.
+fn second_extent(kind: Kind, key: u64) -> Extent
+    ensures { result ≡ second_extent kind key }
 {
     match kind {
-        Kind::Read => Part::At(key),
-        Kind::Replaced => Part::At(key),
-        Kind::Began => Part::First,
+        Kind::Read => Extent::At(key),
+        Kind::Replaced => Extent::At(key),
+        Kind::Began => Extent::First,
     }
 }
 
@@ -262,8 +262,8 @@ fn put_edge(
         ≡ string_bytes text.old ++ edge_lines entries.now edge to) }
 {
     put_heading(text, entries, edge, to)?;
-    let first = first_part(edge.kind, edge.key);
-    let second = second_part(edge.kind, edge.key);
+    let first = first_extent(edge.kind, edge.key);
+    let second = second_extent(edge.kind, edge.key);
     put_entries(alloc, text, entries, edge.from, first)?;
     put_entries(alloc, text, entries, to, second)
 }

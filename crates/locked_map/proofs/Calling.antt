@@ -2,8 +2,8 @@
 -- kept the call in progress, and the end says what the token's side value and claims become.
 use Rattle.std.proofs.Common.{◌≡◌, ℕ, suc, [], Option, Some, None, refl, ap, Bool, true, false, List, inl, inr, sym, ◌↔◌, ◌∙◌}
 use Rattle.std.proofs.Common.{if◌then◌else◌, Result, Err, is_some}
-use Rattle.locked_map.specs.Vocabulary.{Call, CommitNothing, Drive, End, Sizes, State, made, new_drive, seat_after, IsSameSide, Leveled}
-use Rattle.locked_map.specs.Vocabulary.{NoMemory, OutOfStep, Refusal, Seat, BadKey, Stop, is_bad_key}
+use Rattle.locked_map.specs.Vocabulary.{Call, CommitNothing, Drive, End, Sizes, State, made, new_drive, stance_after, IsSameSide, Leveled}
+use Rattle.locked_map.specs.Vocabulary.{NoMemory, OutOfStep, Refusal, Stance, BadKey, Stop, is_bad_key}
 use Rattle.locked_map.proofs.Vocabulary.{append-nil, false≢true}
 use Rattle.std.specs.List.{filter}
 use Rattle.txn_words.specs.Kinds.{is_commit}
@@ -33,7 +33,7 @@ pub record Starts {S : Type 0} (k : Token S) (call : Call) (d : Drive) : Type 0 
   pub holding : IsHolding k call k d
 
 pub starts : {S : Type 0} (k : Token S) (call : Call) (d : Drive) (limits : Sizes) (number : ℕ) → limits ≡ k.limits → number ≡ k.number → d ≡ new_drive limits.half number call → made d ≡ []
-    → FitsIf (seat_after k.seen) call (first_phase k.limits.half call) → Starts k call d
+    → FitsIf (stance_after k.seen) call (first_phase k.limits.half call) → Starts k call d
 starts k call d limits number limits_are number_is drive none fits =
     let new : d ≡ new_drive k.limits.half k.number call = rw (drive, limits_are, number_is) in record {
       going = record { on = record { entries = cc (append-nil k.seen); fits = rw new fits }; quiet = new_quiet d none };
@@ -111,9 +111,9 @@ pub passed_of : {S : Type 0} (words : S → List ℕ) (k l : Token S) (call : Ca
 passed_of words k l call outcome done ran = record { free = ran.free; whose = ran.whose; sound = ran.sound; outcome = outcome; done = done; went = ran.went }
 
 -- If a token does not refuse a call, it is not broken.
-pub sound_if_free : (half b : Bool) (seat : Option Seat) (call : Call) → refused_at half b seat call ≡ None → b ≡ false
-sound_if_free half true seat call free = absurd (cc free)
-sound_if_free half false seat call free = refl
+pub sound_if_free : (half b : Bool) (stance : Option Stance) (call : Call) → refused_at half b stance call ≡ None → b ≡ false
+sound_if_free half true stance call free = absurd (cc free)
+sound_if_free half false stance call free = refl
 
 -- Lemmas about a call for which the token was not made ready.
 module _ {S : Type 0} (k l : Token S) where
@@ -144,9 +144,9 @@ module _ {S : Type 0} (k l : Token S) where
   pub was_refused : (call : Call) (refusal : Refusal) → IsUnready k call refusal l → WasRefused k call refusal l
   was_refused call refusal (inl by_token) = inl by_token
   was_refused call refusal (inr later) =
-      inr (later.0, lacked call refusal (sound_if_free k.limits.half k.broken (seat_after k.seen) call later.0) later.1)
+      inr (later.0, lacked call refusal (sound_if_free k.limits.half k.broken (stance_after k.seen) call later.0) later.1)
 
-help_at : (half b : Bool) (o : Option Seat) (key : ℕ) → b ≡ false → is_some o ≡ true → refused_at half b o (calls.Help key) ≡ (if is_bad_key half key then Some BadKey else None)
+help_at : (half b : Bool) (o : Option Stance) (key : ℕ) → b ≡ false → is_some o ≡ true → refused_at half b o (calls.Help key) ≡ (if is_bad_key half key then Some BadKey else None)
 help_at half b None key sound whole = absurd (cc whole)
 help_at half b (Some s) key sound whole = rw sound
 
@@ -164,10 +164,10 @@ bad_refused words k l key (Err (stops.Refused refusal)) at (inr later) = absurd 
 bad_refused words k l key r at leaves = absurd (cc (at, leaves.free))
 
 -- If the token is not broken, a call for help is refused with `BadKey` exactly if its key is bad.
-pub help_bad_key : {S T : Type 0} (words : S → List ℕ) (k l : Token S) (key : ℕ) (r : Result T Stop) → (k.broken ≡ false → is_some (seat_after k.seen) ≡ true) → LeavesBy words k (calls.Help key) r l
+pub help_bad_key : {S T : Type 0} (words : S → List ℕ) (k l : Token S) (key : ℕ) (r : Result T Stop) → (k.broken ≡ false → is_some (stance_after k.seen) ≡ true) → LeavesBy words k (calls.Help key) r l
     → k.broken ≡ false → (r ≡ Err (stops.Refused BadKey)) ↔ (is_bad_key k.limits.half key ≡ true)
 help_bad_key words k l key r rows leaves sound =
-    let at = help_at k.limits.half k.broken (seat_after k.seen) key sound (rows sound) in (
+    let at = help_at k.limits.half k.broken (stance_after k.seen) key sound (rows sound) in (
       (λ is. refused_bad k l key at (rw is at leaves)),
       λ bad. bad_refused words k l key r (at ∙ ap (λ b. if b then Some BadKey else None) bad) leaves,
     )

@@ -1,7 +1,7 @@
 -- What a caller's step does if it uses the claim that the caller's last trial gives.
 use Rattle.std.proofs.Common.{[], ℕ, ◌++◌, ◌+◌, ◌<◌, ◌∙◌, ◌∷◌, ◌≡◌, ◌⊎◌, Bool, IsTrue, List, None, Option, Some, ap, arith, false, inl, inr}
 use Rattle.std.proofs.Common.{length, length-append, refl, subst, sym, true}
-use Rattle.locked_map.specs.Vocabulary.{Answer, Ask, Call, Claim, Doubling, Drive, Entry, Fresh, Goes, IsLegal, Lock, Move, Op, Phase, Seat}
+use Rattle.locked_map.specs.Vocabulary.{Answer, Ask, Call, Claim, Doubling, Drive, Entry, Fresh, Goes, IsLegal, Lock, Move, Op, Phase, Stance}
 use Rattle.locked_map.specs.Vocabulary.{StaleWord, State, Step, are_limits, caller_of, entries_of, first_step, holder_by, is_ask, sized_in}
 use Rattle.locked_map.specs.Vocabulary.{sized_of, step_in, step_of, told_first, told_in}
 use Rattle.locked_map.proofs.Vocabulary.{false≢true}
@@ -79,15 +79,15 @@ abbrev asks_if : Option Step → Bool
 asks_if None = false
 asks_if (Some step) = is_ask step
 
-stale_first : (n : State) (s : Seat) (c : ℕ) (call : Call) → is_ask (first_step c call) ≡ true → Suits n s c call (told_first call (answers.Refused StaleWord))
+stale_first : (n : State) (s : Stance) (c : ℕ) (call : Call) → is_ask (first_step c call) ≡ true → Suits n s c call (told_first call (answers.Refused StaleWord))
 stale_first n s c (calls.Op op) asks = refl
 stale_first n s c call asks = absurd (false≢true asks)
 
-stale_ends : (n : State) (s : Seat) (c : ℕ) (call : Call) (phase : Phase) → asks_if (step_in c call phase) ≡ true → Suits n s c call (told_in call phase (answers.Refused StaleWord))
+stale_ends : (n : State) (s : Stance) (c : ℕ) (call : Call) (phase : Phase) → asks_if (step_in c call phase) ≡ true → Suits n s c call (told_in call phase (answers.Refused StaleWord))
 stale_ends n s c call Fresh asks = stale_first n s c call asks
 stale_ends n s c call phase asks = absurd (false≢true asks)
 
-pub suits_stale : (claim : Claim) (m n : State) (s : Seat) (c : ℕ) (call : Call) (phase : Phase) (step : Step) (a : Answer) → step_in c call phase ≡ Some step → IsStale claim m step a n → Suits n s c call (told_in call phase a)
+pub suits_stale : (claim : Claim) (m n : State) (s : Stance) (c : ℕ) (call : Call) (phase : Phase) (step : Step) (a : Answer) → step_in c call phase ≡ Some step → IsStale claim m step a n → Suits n s c call (told_in call phase a)
 suits_stale claim m n s c call phase step a is stale =
     subst (λ x. Suits n s c call (told_in call phase x)) (sym stale.refused)
     (stale_ends n s c call phase (ap asks_if is ∙ stale_asks claim m step stale.stale))

@@ -2,19 +2,19 @@
 -- so, because a step's answer is told to the drive together with its entries.
 use Rattle.std.proofs.Common.{if◌then◌else◌, ℕ, ◌++◌, ◌∙◌, ◌≡◌, List, None, Option, Some, ap, append_assoc, false, is_some, nat_lt, refl}
 use Rattle.std.proofs.Common.{subst, sym, true, unwrap_or, [], ◌||◌, ◌≢◌, Bool, IfSome, inl, inr, not}
-use Rattle.locked_map.specs.Vocabulary.{Answer, Call, Doubling, Drive, Entry, Initialising, One, Phase, Seat, Seeking, Sizes, State, Step}
-use Rattle.locked_map.specs.Vocabulary.{Turn, Two, closed_seat, entries_of, made, seat_after, sized_in, sized_of, step_in, step_of, told_in}
+use Rattle.locked_map.specs.Vocabulary.{Answer, Call, Doubling, Drive, Entry, Initialising, One, Phase, Stance, Seeking, Sizes, State, Step}
+use Rattle.locked_map.specs.Vocabulary.{Turn, Two, closed_stance, entries_of, made, stance_after, sized_in, sized_of, step_in, step_of, told_in}
 use Rattle.locked_map.specs.Vocabulary.{told_of, turn_in, turn_of, CommitNothing, End, First, Helped, IsQuiet, IsShaped, Last, Lost}
-use Rattle.locked_map.specs.Vocabulary.{NoMemory, OutOfStep, Refused, end_of, ended_by, seat_in}
-use Rattle.locked_map.proofs.Vocabulary.{false≢true, goes_on, has_seat}
+use Rattle.locked_map.specs.Vocabulary.{NoMemory, OutOfStep, Refused, end_of, ended_by, stance_in}
+use Rattle.locked_map.proofs.Vocabulary.{false≢true, goes_on, has_stance}
 use Rattle.txn_drive.specs.Drives.{paired}
 use Rattle.txn_drive.proofs.DriveLaws.{made-sized, made_at_end}
 use Rattle.txn_drive.proofs.MadeLemmas.{made-told_of}
-use Rattle.locked_map.proofs.Phases.{fits_told, seat_on, seat_on_more, seat_told, some_is}
+use Rattle.locked_map.proofs.Phases.{fits_told, stance_on, stance_on_more, stance_told, some_is}
 use Rattle.locked_map.specs.Claims.{Trial}
 use Rattle.locked_map.specs.Holds.{FitsIf, IsUnderway, TakesSecond, GoesTo, HasRun, Held, HeldBy, How, InStep, MayEnd, end_in, is_out}
 use Rattle.locked_map.specs.Holds.{odd_if, out_if}
-use Rattle.locked_map.specs.Suits.{SuitsSeat, IsInStep, IsSized, Suits, is_odd, may_refuse}
+use Rattle.locked_map.specs.Suits.{SuitsStance, IsInStep, IsSized, Suits, is_odd, may_refuse}
 use Rattle.std.proofs.lemmas.Bool.{or_parts}
 use Rattle.txn_drive.proofs.Quiet.{going_quiet, made_quiet}
 use Rattle.locked_map.specs.Tokens.{Token}
@@ -28,19 +28,19 @@ use Rattle.txn_drive.specs.declared.«end».End.TheVariants as ends
 pub at_paired : (P : Turn → Type 0) (again : ℕ) (seeking acting : Step) → P (One seeking) → P (Two seeking acting) → P (paired again seeking acting)
 at_paired P again seeking acting one two = elim (nat_lt again 8) as (λ b. P (if b then One seeking else Two seeking acting)) [ true ↦ one | false ↦ two ]
 
-fits_on : (s : Seat) (d : Drive) (step : Step) (a : Answer) (o : Option Seat) → step_of d ≡ Some step → SuitsSeat s d.call d.phase → seat_on s (entries_of step a) ≡ o → FitsIf o d.call (told_in d.call d.phase a)
+fits_on : (s : Stance) (d : Drive) (step : Step) (a : Answer) (o : Option Stance) → step_of d ≡ Some step → SuitsStance s d.call d.phase → stance_on s (entries_of step a) ≡ o → FitsIf o d.call (told_in d.call d.phase a)
 fits_on s d step a None is fits on = tt
-fits_on s d step a (Some next) is fits on = fits_told s next d.caller d.call d.phase a fits (ap (λ t. seat_told s t a) is ∙ on)
+fits_on s d step a (Some next) is fits on = fits_told s next d.caller d.call d.phase a fits (ap (λ t. stance_told s t a) is ∙ on)
 
-pub goes_told : (base seen seen' : List Entry) (d e : Drive) (step : Step) (a : Answer) → step_of d ≡ Some step → is_some (seat_after seen) ≡ true → seen' ≡ seen ++ entries_of step a → e ≡ told_of d a
+pub goes_told : (base seen seen' : List Entry) (d e : Drive) (step : Step) (a : Answer) → step_of d ≡ Some step → is_some (stance_after seen) ≡ true → seen' ≡ seen ++ entries_of step a → e ≡ told_of d a
     → IsUnderway base seen d → IsUnderway base seen' e
 goes_told base seen seen' d e step a is whole seen_is told goes =
     let es = entries_of step a in
-    let s = unwrap_or (seat_after seen) closed_seat in
-    let seat : seat_after seen ≡ Some s = some_is (seat_after seen) whole in
+    let s = unwrap_or (stance_after seen) closed_stance in
+    let stance : stance_after seen ≡ Some s = some_is (stance_after seen) whole in
     rw (seen_is, told) (record {
       entries = ap (λ h. h ++ es) goes.entries ∙ append_assoc base (made d) es ∙ ap (λ h. base ++ h) (sym (made-told_of d step a is));
-      fits = subst (λ o. FitsIf o d.call (told_in d.call d.phase a)) (sym (seat_on_more seen es s seat)) (fits_on s d step a (seat_on s es) is (subst (λ o. FitsIf o d.call d.phase) seat goes.fits) refl);
+      fits = subst (λ o. FitsIf o d.call (told_in d.call d.phase a)) (sym (stance_on_more seen es s stance)) (fits_on s d step a (stance_on s es) is (subst (λ o. FitsIf o d.call d.phase) stance goes.fits) refl);
     })
 
 second_in : (size c : ℕ) (call : Call) (phase : Phase) (step next : Step) → turn_in c call phase ≡ Two step next → (step_in c call (told_in call phase answers.Placed) ≡ Some next) × IsSized size (told_in call phase answers.Placed)
@@ -67,10 +67,10 @@ no_second tried m seen d next a not_so = (refl, refl, refl)
 pub goes_sized : (base seen : List Entry) (d e : Drive) (size : ℕ) → e ≡ sized_of size d → IsUnderway base seen d → IsUnderway base seen e
 goes_sized base seen d e size is goes = rw is (record {
   entries = goes.entries ∙ ap (λ h. base ++ h) (sym (made-sized size d.caller d.call d.phase));
-  fits = at (seat_after seen) d.phase goes.fits;
+  fits = at (stance_after seen) d.phase goes.fits;
 })
   where
-    at : (o : Option Seat) (phase : Phase) → FitsIf o d.call phase → FitsIf o d.call (sized_in size phase)
+    at : (o : Option Stance) (phase : Phase) → FitsIf o d.call phase → FitsIf o d.call (sized_in size phase)
     at None phase fits = tt
     at (Some s) (Doubling seen) fits = tt
     at (Some s) phase fits = fits
@@ -94,7 +94,7 @@ plain_end call outcome es plain = (plain, tt, refl)
 
 -- A call that ends with `OutOfStep` has committed nothing. If a drive has an end that its call must
 -- not have (`is_odd`), it has also committed nothing.
-pub out_run : (base seen : List Entry) (e : Drive) → IsUnderway base seen e → (is_some (seat_after seen) ≡ true → CommitNothing (made e)) → HasRun base seen e.caller e.call (ends.Refused OutOfStep)
+pub out_run : (base seen : List Entry) (e : Drive) → IsUnderway base seen e → (is_some (stance_after seen) ≡ true → CommitNothing (made e)) → HasRun base seen e.caller e.call (ends.Refused OutOfStep)
 out_run base seen e goes quiet = record { added = made e; entries = goes.entries; made = tt; may = tt; quiet = quiet }
 
 odd_quiet : (e : Drive) (end : Option End) → end_of e ≡ end → odd_if e.call end ≡ true → CommitNothing (made e)
@@ -104,21 +104,21 @@ odd_quiet e end is odd = elim (made_quiet e) [
 ]
 
 goes_end : (base seen : List Entry) (e : Drive) (b : Bool) (end : Option End) → end_of e ≡ end → IsUnderway base seen e → (b ≡ false → odd_if e.call end ≡ false)
-    → (b ≡ true → is_some (seat_after seen) ≡ true → odd_if e.call end ≡ true) → GoesTo base seen e (end_in b end)
+    → (b ≡ true → is_some (stance_after seen) ≡ true → odd_if e.call end ≡ true) → GoesTo base seen e (end_in b end)
 goes_end base seen e true end is goes plain odd = out_run base seen e goes (λ whole. odd_quiet e end is (odd refl whole))
 goes_end base seen e false None is goes plain odd = record { on = goes; quiet = going_quiet e is }
 goes_end base seen e false (Some outcome) is goes plain odd =
     let end = plain_end e.call outcome (made e) (plain refl) in
     record { added = made e; entries = goes.entries; made = made_at_end e outcome is; may = end.0; quiet = λ whole. end.1 }
 
-pub goes_held : (base seen : List Entry) (e : Drive) (b whole : Bool) (end r : Option End) → whole ≡ is_some (seat_after seen) → end ≡ end_of e → b ≡ (not whole || odd_if e.call end) → r ≡ end_in b end
+pub goes_held : (base seen : List Entry) (e : Drive) (b whole : Bool) (end r : Option End) → whole ≡ is_some (stance_after seen) → end ≡ end_of e → b ≡ (not whole || odd_if e.call end) → r ≡ end_in b end
     → IsUnderway base seen e → GoesTo base seen e r
 goes_held base seen e b whole end r whole_is is broken ends goes =
     subst (GoesTo base seen e) (sym ends) (
     goes_end base seen e b end (sym is) goes (λ no. (or_parts (not whole) (odd_if e.call end) (sym broken ∙ no)).1)
     (λ yes has. let at : whole ≡ true = whole_is ∙ has in sym (sym yes ∙ broken ∙ (λ i. not (at i) || odd_if e.call end))))
 
-suits_plain_in : (m : State) (s : Seat) (c : ℕ) (call : Call) (phase : Phase) → Suits m s c call phase → odd_if call (ended_by (turn_in c call phase)) ≡ false
+suits_plain_in : (m : State) (s : Stance) (c : ℕ) (call : Call) (phase : Phase) → Suits m s c call phase → odd_if call (ended_by (turn_in c call phase)) ≡ false
 suits_plain_in m s c call (First a) suits = suits
 suits_plain_in m s c call (Last work a) suits = suits
 suits_plain_in m s c call (Lost work) suits = absurd suits.1
@@ -145,12 +145,12 @@ other_in_step {S} m t k d view other ins = other (ap (λ (z : Sizes). z.stripes)
 -- If a core and a token are in step after a turn, the token is not broken, and the hold does not
 -- end with `OutOfStep`.
 pub held_in_step : (n : State) (limits : Sizes) (number : ℕ) (seen : List Entry) (b : Bool) (e : Drive) (end r : Option End) (whole : Bool) → IsInStep n limits number seen e → IsShaped n.history
-    → whole ≡ is_some (seat_after seen) → end ≡ end_of e → b ≡ (not whole || odd_if e.call end) → r ≡ end_in b end → ((b ≡ false) × IsInStep n limits number seen e) × IfSome r (λ x. x ≢ ends.Refused OutOfStep)
+    → whole ≡ is_some (stance_after seen) → end ≡ end_of e → b ≡ (not whole || odd_if e.call end) → r ≡ end_in b end → ((b ≡ false) × IsInStep n limits number seen e) × IfSome r (λ x. x ≢ ends.Refused OutOfStep)
 held_in_step n limits number seen b e end r whole ins shape whole_is end_is broken ends_is =
-    let seat : whole ≡ true = whole_is ∙ ap (λ h. is_some (seat_after h)) (sym ins.same) ∙ has_seat n.history shape number in
-    let suits = subst (λ w. Suits n (seat_in n.history number) w e.call e.phase) (sym ins.mine) ins.suits in
-    let plain : odd_if e.call end ≡ false = ap (odd_if e.call) end_is ∙ suits_plain_in n (seat_in n.history number) e.caller e.call e.phase suits in
-    let sound : b ≡ false = broken ∙ (λ i. not (seat i) || plain i) in
+    let stance : whole ≡ true = whole_is ∙ ap (λ h. is_some (stance_after h)) (sym ins.same) ∙ has_stance n.history shape number in
+    let suits = subst (λ w. Suits n (stance_in n.history number) w e.call e.phase) (sym ins.mine) ins.suits in
+    let plain : odd_if e.call end ≡ false = ap (odd_if e.call) end_is ∙ suits_plain_in n (stance_in n.history number) e.caller e.call e.phase suits in
+    let sound : b ≡ false = broken ∙ (λ i. not (stance i) || plain i) in
     ((sound, ins), subst (λ o. IfSome o (λ x. x ≢ ends.Refused OutOfStep)) (sym (ends_is ∙ ap (λ x. end_in x end) sound)) (not_out e.call end plain))
 
 -- A token breaks exactly if its hold ends with `OutOfStep`.

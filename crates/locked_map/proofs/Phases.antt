@@ -1,72 +1,72 @@
--- Shows that a drive fits its caller's seat after each answer whose entries have the right shape,
--- because these entries lead the seat to the phase that the drive's next phase needs.
+-- Shows that a drive fits its caller's stance after each answer whose entries have the right shape,
+-- because these entries lead the stance to the phase that the drive's next phase needs.
 use Rattle.std.proofs.Common.{[], if◌then◌else◌, ℕ, ◌%◌, ◌++◌, ◌+◌, ◌-◌, ◌^◌, ◌∙◌, ◌≡◌, ◌≤◌, Bool, List, None, Option, Some, ap, arith}
 use Rattle.std.proofs.Common.{cond, false, is_some, length, nat_lt, refl, slice_index, subst, sym, true, unwrap_or}
 use Rattle.locked_map.specs.Vocabulary.{Acting, Answer, Busy, Call, Doubling, Entry, Fresh, Initialising, Last, Leaving, Linking, Lost}
-use Rattle.locked_map.specs.Vocabulary.{NothingToSeek, Operation, Phase, Refusal, Seat, Seeking, Standing, Step, Storing, Work, closed_seat}
-use Rattle.locked_map.specs.Vocabulary.{counted, entries_of, first_step, fold, row, seat_after, step_in, told_first, told_in, told_seek}
+use Rattle.locked_map.specs.Vocabulary.{NothingToSeek, Operation, Phase, Refusal, Stance, Seeking, Standing, Step, Storing, Work, closed_stance}
+use Rattle.locked_map.specs.Vocabulary.{counted, entries_of, first_step, fold, row, stance_after, step_in, told_first, told_in, told_seek}
 use Rattle.locked_map.specs.Vocabulary.{undone_in, undone_more}
 use Rattle.locked_map.proofs.Vocabulary.{fold-append}
 use Rattle.std.specs.Option.{option_and_then}
 use Rattle.txn_drive.specs.Drives.{heading, refused_help, towards}
 use Rattle.boost_core.proofs.HelpTargets.{at_heading, at_refused, at_towards}
-use Rattle.locked_map.specs.Suits.{SuitsSeat, undone_of, work_phase}
+use Rattle.locked_map.specs.Suits.{SuitsStance, undone_of, work_phase}
 use Rattle.txn_drive.specs.declared.call.Call.TheVariants as calls
 use Rattle.txn_words.specs.declared.answer.Answer.TheVariants as answers
 use Rattle.txn_words.specs.declared.entry.Entry.TheVariants as entries
-use Rattle.txn_words.specs.declared.seat.Phase.TheVariants as seats
+use Rattle.txn_words.specs.declared.stance.Phase.TheVariants as stances
 
 abbrev left_for : Option ℕ → Standing
-left_for None = seats.LeavingToEnd
-left_for (Some n) = seats.LeavingTo n
+left_for None = stances.LeavingToEnd
+left_for (Some n) = stances.LeavingTo n
 
 abbrev phase_after : Standing → Entry → Option Standing
-phase_after q (entries.Asked c op) = Some (seats.Waiting op)
+phase_after q (entries.Asked c op) = Some (stances.Waiting op)
 phase_after q (entries.Leave c level) = Some (left_for level)
 phase_after q (entries.Undone c) = Some q
-phase_after q (entries.Busy c op x) = Some seats.LeavingToEnd
+phase_after q (entries.Busy c op x) = Some stances.LeavingToEnd
 phase_after q e = None
 
-abbrev PhaseIs : Option Standing → Option Seat → Type 0
+abbrev PhaseIs : Option Standing → Option Stance → Type 0
 PhaseIs (Some q) (Some s) = s.phase ≡ q
 PhaseIs q s = Unit {0}
 
-phase_if : (q : Standing) (b : Bool) (s : Seat) → s.phase ≡ q → PhaseIs (Some q) (cond b (Some s) None)
+phase_if : (q : Standing) (b : Bool) (s : Stance) → s.phase ≡ q → PhaseIs (Some q) (cond b (Some s) None)
 phase_if q true s is = is
 phase_if q false s is = tt
 
-row_phase_is : (s : Seat) (q : Standing) (e : Entry) → s.phase ≡ q → PhaseIs (phase_after q e) (row s q e)
-row_phase_is s seats.Closed (entries.Began c t) at = tt
-row_phase_is s seats.Opened (entries.Asked c op) at = refl
-row_phase_is s seats.Opened (entries.Busy c op x) at = refl
-row_phase_is s seats.Opened (entries.Leave c None) at = refl
-row_phase_is s seats.Opened (entries.Leave c (Some n)) at = phase_if (seats.LeavingTo n) (nat_lt n (length s.kept)) (record s { phase = seats.LeavingTo n }) refl
-row_phase_is s (seats.Waiting op) (entries.Leave c None) at = refl
-row_phase_is s (seats.LeavingTo n) (entries.Undone c) at = phase_if (seats.LeavingTo n) (nat_lt (slice_index s.kept n) s.standing) (record s { standing = s.standing - 1 }) at
-row_phase_is s seats.LeavingToEnd (entries.Undone c) at = phase_if seats.LeavingToEnd (nat_lt 0 s.standing) (record s { standing = s.standing - 1 }) at
+row_phase_is : (s : Stance) (q : Standing) (e : Entry) → s.phase ≡ q → PhaseIs (phase_after q e) (row s q e)
+row_phase_is s stances.Closed (entries.Began c t) at = tt
+row_phase_is s stances.Opened (entries.Asked c op) at = refl
+row_phase_is s stances.Opened (entries.Busy c op x) at = refl
+row_phase_is s stances.Opened (entries.Leave c None) at = refl
+row_phase_is s stances.Opened (entries.Leave c (Some n)) at = phase_if (stances.LeavingTo n) (nat_lt n (length s.kept)) (record s { phase = stances.LeavingTo n }) refl
+row_phase_is s (stances.Waiting op) (entries.Leave c None) at = refl
+row_phase_is s (stances.LeavingTo n) (entries.Undone c) at = phase_if (stances.LeavingTo n) (nat_lt (slice_index s.kept n) s.standing) (record s { standing = s.standing - 1 }) at
+row_phase_is s stances.LeavingToEnd (entries.Undone c) at = phase_if stances.LeavingToEnd (nat_lt 0 s.standing) (record s { standing = s.standing - 1 }) at
 row_phase_is s q e at = tt
 
-row_phase : (s next : Seat) (e : Entry) (q : Standing) → phase_after s.phase e ≡ Some q → row s s.phase e ≡ Some next → Some q ≡ Some next.phase
+row_phase : (s next : Stance) (e : Entry) (q : Standing) → phase_after s.phase e ≡ Some q → row s s.phase e ≡ Some next → Some q ≡ Some next.phase
 row_phase s next e q after is = ap Some (sym (subst (PhaseIs (Some q)) is (subst (λ o. PhaseIs o (row s s.phase e)) after (row_phase_is s s.phase e refl))))
 
--- The seat after further entries.
-abbrev pub seat_on : Seat → List Entry → Option Seat
-seat_on s es = fold (λ seat e. option_and_then (λ t. row t t.phase e) seat) (Some s) es
+-- The stance after further entries.
+abbrev pub stance_on : Stance → List Entry → Option Stance
+stance_on s es = fold (λ stance e. option_and_then (λ t. row t t.phase e) stance) (Some s) es
 
-pub seat_on_more : (h es : List Entry) (s : Seat) → seat_after h ≡ Some s → seat_after (h ++ es) ≡ seat_on s es
-seat_on_more h es s at =
-    fold-append (λ seat e. option_and_then (λ (t : Seat). row t t.phase e) seat) (Some closed_seat) h es
-    ∙ ap (λ o. fold (λ seat e. option_and_then (λ (t : Seat). row t t.phase e) seat) o es) at
+pub stance_on_more : (h es : List Entry) (s : Stance) → stance_after h ≡ Some s → stance_after (h ++ es) ≡ stance_on s es
+stance_on_more h es s at =
+    fold-append (λ stance e. option_and_then (λ (t : Stance). row t t.phase e) stance) (Some closed_stance) h es
+    ∙ ap (λ o. fold (λ stance e. option_and_then (λ (t : Stance). row t t.phase e) stance) o es) at
 
-pub some_is : (o : Option Seat) → is_some o ≡ true → o ≡ Some (unwrap_or o closed_seat)
+pub some_is : (o : Option Stance) → is_some o ≡ true → o ≡ Some (unwrap_or o closed_stance)
 some_is None is = absurd (cc is)
 some_is (Some s) is = refl
 
-fits_first : (s next : Seat) (c : ℕ) (call : Call) (a : Answer) → seat_on s (entries_of (first_step c call) a) ≡ Some next → SuitsSeat next call (told_first call a)
-fits_first s next c (calls.Op op) answers.Asked is = row_phase s next (entries.Asked c op) (seats.Waiting op) refl is
-fits_first s next c (calls.Op op) (answers.Busy x) is = row_phase s next (entries.Busy c op x) seats.LeavingToEnd refl is
-fits_first s next c (calls.Back n) answers.Leaving is = row_phase s next (entries.Leave c (Some n)) (seats.LeavingTo n) refl is
-fits_first s next c calls.Abort answers.Leaving is = row_phase s next (entries.Leave c None) seats.LeavingToEnd refl is
+fits_first : (s next : Stance) (c : ℕ) (call : Call) (a : Answer) → stance_on s (entries_of (first_step c call) a) ≡ Some next → SuitsStance next call (told_first call a)
+fits_first s next c (calls.Op op) answers.Asked is = row_phase s next (entries.Asked c op) (stances.Waiting op) refl is
+fits_first s next c (calls.Op op) (answers.Busy x) is = row_phase s next (entries.Busy c op x) stances.LeavingToEnd refl is
+fits_first s next c (calls.Back n) answers.Leaving is = row_phase s next (entries.Leave c (Some n)) (stances.LeavingTo n) refl is
+fits_first s next c calls.Abort answers.Leaving is = row_phase s next (entries.Leave c None) stances.LeavingToEnd refl is
 fits_first s next c call a is = tt
 
 at_seek : (P : Phase → Type 0) (work : Work) (again : ℕ) (a : Answer) → P (Acting work again) → P (Lost work) → P (told_seek work again a)
@@ -87,10 +87,10 @@ leave_more : (call : Call) (k j : ℕ) → work_phase call (Leaving j) ≡ work_
 leave_more (calls.Back n) k j = refl
 leave_more call k j = refl
 
-fits_undone : (s : Seat) (call : Call) (work : Work) → work_phase call work ≡ Some s.phase → SuitsSeat s call (undone_more work)
+fits_undone : (s : Stance) (call : Call) (work : Work) → work_phase call work ≡ Some s.phase → SuitsStance s call (undone_more work)
 fits_undone s call Operation fits = tt
-fits_undone s call (Busy x k) fits = at_counted (SuitsSeat s call) k (Busy x (k + 1)) (Busy x k) (work_more call x k (k + 1) ∙ fits) tt
-fits_undone s call (Leaving k) fits = at_counted (SuitsSeat s call) k (Leaving (k + 1)) (Leaving k) (leave_more call k (k + 1) ∙ fits) tt
+fits_undone s call (Busy x k) fits = at_counted (SuitsStance s call) k (Busy x (k + 1)) (Busy x k) (work_more call x k (k + 1) ∙ fits) tt
+fits_undone s call (Leaving k) fits = at_counted (SuitsStance s call) k (Leaving (k + 1)) (Leaving k) (leave_more call k (k + 1) ∙ fits) tt
 
 -- The phases other than `Fresh` in which no work is done. No call returns to its work from such a
 -- phase.
@@ -101,7 +101,7 @@ Aside Fresh = ⊥
 Aside phase = Unit {0}
 
 abbrev IsFree : Phase → Type 0
-IsFree phase = ((s : Seat) (call : Call) → SuitsSeat s call phase) × (undone_of phase ≡ 0)
+IsFree phase = ((s : Stance) (call : Call) → SuitsStance s call phase) × (undone_of phase ≡ 0)
 
 free_towards : (last bucket : ℕ) → IsFree (towards last bucket)
 free_towards last bucket = at_towards IsFree last bucket (λ same. (λ s call. tt, refl)) (λ other. (λ s call. tt, refl))
@@ -133,16 +133,16 @@ abbrev pub entries_if : Option Step → Answer → List Entry
 entries_if None a = []
 entries_if (Some step) a = entries_of step a
 
-abbrev pub seat_told : Seat → Option Step → Answer → Option Seat
-seat_told s None a = None
-seat_told s (Some step) a = seat_on s (entries_of step a)
+abbrev pub stance_told : Stance → Option Step → Answer → Option Stance
+stance_told s None a = None
+stance_told s (Some step) a = stance_on s (entries_of step a)
 
-same_phase : (call : Call) (work : Work) (s next : Seat) → work_phase call work ≡ Some s.phase → Some s ≡ Some next → work_phase call work ≡ Some next.phase
+same_phase : (call : Call) (work : Work) (s next : Stance) → work_phase call work ≡ Some s.phase → Some s ≡ Some next → work_phase call work ≡ Some next.phase
 same_phase call work s next fits is = cc
 
-pub fits_told : (s next : Seat) (c : ℕ) (call : Call) (phase : Phase) (a : Answer) → SuitsSeat s call phase → seat_told s (step_in c call phase) a ≡ Some next → SuitsSeat next call (told_in call phase a)
+pub fits_told : (s next : Stance) (c : ℕ) (call : Call) (phase : Phase) (a : Answer) → SuitsStance s call phase → stance_told s (step_in c call phase) a ≡ Some next → SuitsStance next call (told_in call phase a)
 fits_told s next c call Fresh a fits is = fits_first s next c call a is
-fits_told s next c call (Seeking work again) a fits is = at_seek (SuitsSeat next call) work again a (same_phase call work s next fits is) tt
+fits_told s next c call (Seeking work again) a fits is = at_seek (SuitsStance next call) work again a (same_phase call work s next fits is) tt
 fits_told s next c call (Acting work again) answers.Again fits is = same_phase call work s next fits is
 fits_told s next c call (Acting work again) answers.Undone fits is = fits_undone next call work (fits ∙ row_phase s next (entries.Undone c) s.phase refl is)
 fits_told s next c call (Acting work again) a fits is = tt

@@ -5,4 +5,4 @@ pub use Rattle.std.proofs.lemmas.Bool.{false≢true}
 pub use Rattle.std.proofs.lemmas.List.{append-nil}
 pub use Rattle.std.proofs.lemmas.List.Sums.{fold-append}
 pub use Rattle.txn_drive.proofs.DriveLaws.{goes_on}
-pub use Rattle.txn_trace.proofs.Running.{has_seat}
+pub use Rattle.txn_trace.proofs.Running.{has_stance}

@@ -2,7 +2,7 @@
 -- The holds of a shared call, and the caller after the call.
 use Rattle.std.specs.Prelude.{ℕ, zero, suc, ◌≡◌, ◌≤◌, ◌⊎◌, true, false, List, [], ◌∷◌, ◌++◌, length, Option, Some, None, is_some, Result, Ok, Err, IfOk, OnOk}
 use Rattle.locked_map.specs.Vocabulary.{Call, CommitNothing, Drive, End, Entry, IsMade, IsSameSide, NoMemory, Op, OutOfStep, Refusal, State}
-use Rattle.locked_map.specs.Vocabulary.{Stop, new_drive, seat_after}
+use Rattle.locked_map.specs.Vocabulary.{Stop, new_drive, stance_after}
 use Rattle.txn_drive.specs.declared.call.Call.TheVariants as calls
 use Rattle.txn_drive.specs.declared.«end».End.TheVariants as ends
 use Rattle.locked_map.specs.Claims.{Readies, claims_at}
@@ -101,7 +101,7 @@ pub record FellOut {S : Type 0} (k : Token S) (call : Call) (l : Token S) : Type
   pub broken : l.broken ≡ true
   pub added : List Entry
   pub entries : l.seen ≡ k.seen ++ added
-  pub quiet : is_some (seat_after l.seen) ≡ true → CommitNothing added
+  pub quiet : is_some (stance_after l.seen) ≡ true → CommitNothing added
   pub side : IsSameSide k.side l.side
   pub cause : LacksLevel k call l ⊎ WentOn k call (ends.Refused OutOfStep) l
 

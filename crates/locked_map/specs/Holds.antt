@@ -4,14 +4,14 @@
 -- ended.
 use Rattle.std.specs.Prelude.{ℕ, ◌≡◌, ◌≢◌, Bool, true, false, not, ◌||◌, List, [], ◌++◌, Option, Some, None, is_some}
 use Rattle.locked_map.specs.Vocabulary.{Answer, Call, CommitNothing, Drive, End, Ended, Entry, Goes, IsMade, IsQuiet, NoMemory, One}
-use Rattle.locked_map.specs.Vocabulary.{OutOfStep, Phase, Seat, Sizes, State, Step, Turn, Two, end_of, entries_of, made, seat_after}
+use Rattle.locked_map.specs.Vocabulary.{OutOfStep, Phase, Stance, Sizes, State, Step, Turn, Two, end_of, entries_of, made, stance_after}
 use Rattle.locked_map.specs.Vocabulary.{sized_of, step_of, told_of, turn_of}
 use Rattle.txn_words.specs.declared.answer.Answer.TheVariants as answers
 use Rattle.txn_drive.specs.declared.«end».End.TheVariants as ends
 use Rattle.boost_core.specs.Words.{ListsBy}
 use Rattle.locked_map.specs.Claims.{Claimed, Trial, HasTriedIf, claim_in}
 use Rattle.locked_map.specs.Tokens.{Token, IsSameCaller, IsSameClaims}
-use Rattle.locked_map.specs.Suits.{is_odd, may_refuse, SuitsSeat, IsInStep, IsSized}
+use Rattle.locked_map.specs.Suits.{is_odd, may_refuse, SuitsStance, IsInStep, IsSized}
 
 -- The four ways a hold can go: the token was broken; the core does not have as many stripes as
 -- there are words; there was no room for what the turn may add; or the turn was taken.
@@ -46,7 +46,7 @@ out_if (Some outcome) = is_out outcome
 -- entry. The core has as many stripes as there are words. If the step asks for an operation, the
 -- last trial was of the stripe to which the operation's key belongs.
 pub record MayTake (claims : Claimed) (m : State) (seen : List Entry) (d : Drive) : Type 0 where
-  pub whole : is_some (seat_after seen) ≡ true
+  pub whole : is_some (stance_after seen) ≡ true
   pub stripes : m.limits.stripes ≡ claims.stripes
   pub tried : HasTriedIf claims.tried claims.stripes (step_of d)
 
@@ -88,7 +88,7 @@ pub record TurnHeld {S : Type 0} (m : State) (k : Token S) (d : Drive) (outcome 
   pub sound : k.broken ≡ false
   pub stripes : m.limits.stripes ≡ k.limits.stripes
   pub turn : TakesTurn k.claims.tried m k.seen d (turn_of d) n l.seen e
-  pub broken : l.broken ≡ (not (is_some (seat_after l.seen)) || odd_if e.call (end_of e))
+  pub broken : l.broken ≡ (not (is_some (stance_after l.seen)) || odd_if e.call (end_of e))
   pub ends : outcome ≡ end_in l.broken (end_of e)
   pub whose : IsSameCaller k l
   pub claims : IsSameClaims k l
@@ -116,16 +116,16 @@ Held m k d outcome n l e = (how : How) × HeldBy how m k (sized_of m.size d) out
 abbrev pub InStep : {S : Type 0} → State → Token S → Drive → Type 0
 InStep m k d = (k.broken ≡ false) × IsInStep m k.limits k.number k.seen d
 
--- If the caller's entries give it a seat, this seat fits the drive.
-abbrev pub FitsIf : Option Seat → Call → Phase → Type 0
+-- If the caller's entries give it a stance, this stance fits the drive.
+abbrev pub FitsIf : Option Stance → Call → Phase → Type 0
 FitsIf None call phase = Unit {0}
-FitsIf (Some s) call phase = SuitsSeat s call phase
+FitsIf (Some s) call phase = SuitsStance s call phase
 
 -- A call is in progress. Before the call, its caller had seen the entries `base`. Since then, the
--- caller has seen the entries that the call's drive has made. The caller's seat fits the drive.
+-- caller has seen the entries that the call's drive has made. The caller's stance fits the drive.
 pub record IsUnderway (base seen : List Entry) (d : Drive) : Type 0 where
   pub entries : seen ≡ base ++ made d
-  pub fits : FitsIf (seat_after seen) d.call d.phase
+  pub fits : FitsIf (stance_after seen) d.call d.phase
 
 -- What taking a turn does. `taken` says whether there was room for what the turn may add. If there
 -- was no room, nothing is done. In this case the call has added no entry yet, and may be refused
@@ -154,7 +154,7 @@ pub record HasRun (base seen : List Entry) (c : ℕ) (call : Call) (outcome : En
   pub entries : seen ≡ base ++ added
   pub made : IsMade c call outcome added
   pub may : MayEnd call outcome
-  pub quiet : is_some (seat_after seen) ≡ true → IsQuiet outcome added
+  pub quiet : is_some (stance_after seen) ≡ true → IsQuiet outcome added
 
 -- The call is in progress (`IsUnderway`), and has committed nothing so far.
 pub record IsGoing (base seen : List Entry) (d : Drive) : Type 0 where

@@ -1,7 +1,7 @@
 -- The entries that a caller has seen, and the room for more.
 use Rattle.std.specs.Prelude.{ℕ, ◌≡◌, ◌+◌, ◌<◌, ◌≤◌, Bool, true, false, List, [], ◌∷◌, length, Some, is_some, vec_capacity}
-use Rattle.locked_map.specs.Vocabulary.{Act, Answer, Ask, Begin, Entry, RoomySeat, Step, Vec, entries_of, fold, owed_by, reserved}
-use Rattle.locked_map.specs.Vocabulary.{seat_after}
+use Rattle.locked_map.specs.Vocabulary.{Act, Answer, Ask, Begin, Entry, RoomyStance, Step, Vec, entries_of, fold, owed_by, reserved}
+use Rattle.locked_map.specs.Vocabulary.{stance_after}
 use Rattle.txn_words.specs.declared.entry.Entry.TheVariants.{Began}
 use Rattle.txn_words.specs.declared.step.Step.TheVariants.{Save, Back, Commit, Abort}
 use Rattle.txn_words.specs.Packed.{is_small}
@@ -21,16 +21,16 @@ pub record Noted : Type 0 where
   pub room : ℕ
   pub save_room : ℕ
 
--- If the rule of shape allows each entry, the seat is the one that the entries give. `txn` is the
+-- If the rule of shape allows each entry, the stance is the one that the entries give. `txn` is the
 -- number of the last transaction that the entries begin. There is room for all entries that the
 -- caller owes. The caller's share of the ledger has one part, and the share's amount is the number
 -- of entries.
-pub record IsNoted (entries : Vec Entry) (seat : RoomySeat) (whole : Bool) (txn parts amount : ℕ) :
+pub record IsNoted (entries : Vec Entry) (stance : RoomyStance) (whole : Bool) (txn parts amount : ℕ) :
     Type 0 where
-  pub fits : whole ≡ is_some (seat_after entries.items)
-  pub seated : whole ≡ true → seat_after entries.items ≡ Some seat.seat
+  pub fits : whole ≡ is_some (stance_after entries.items)
+  pub its_stance : whole ≡ true → stance_after entries.items ≡ Some stance.stance
   pub last : txn ≡ last_txn entries.items
-  pub room : length entries.items + owed_by (seat_after entries.items) ≤ vec_capacity entries
+  pub room : length entries.items + owed_by (stance_after entries.items) ≤ vec_capacity entries
   pub one_part : parts ≡ 1
   pub counts : amount ≡ length entries.items
 
@@ -53,7 +53,7 @@ is_save step = false
 -- There is room for the entry and the savepoint that a step may add, and for all entries that are
 -- owed after the step.
 pub record HasRoomFor (seen : Noted) (step : Step) : Type 0 where
-  pub all : owed_by (seat_after seen.entries) + reserved step ≤ seen.room
+  pub all : owed_by (stance_after seen.entries) + reserved step ≤ seen.room
   pub one : adds_entry step ≡ true → 0 < seen.room
   pub save : is_save step ≡ true → 0 < seen.save_room
 

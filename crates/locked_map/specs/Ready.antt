@@ -2,8 +2,8 @@
 -- How a token refuses a call, what it may lack for one, and what a call does to its side value, which
 -- the function `words` turns into words.
 use Rattle.std.specs.Prelude.{◌≡◌, ◌≤◌, ◌⊎◌, if◌then◌else◌, Bool, true, false, length, Option, Some, None, ℕ, ◌<◌, List}
-use Rattle.locked_map.specs.Vocabulary.{BadKey, Call, NoMemory, OutOfStep, Refusal, Seat, first_step, is_bad_key, option_or, refusal_in}
-use Rattle.locked_map.specs.Vocabulary.{seat_after, End, IsSameSide, Leveled}
+use Rattle.locked_map.specs.Vocabulary.{BadKey, Call, NoMemory, OutOfStep, Refusal, Stance, first_step, is_bad_key, option_or, refusal_in}
+use Rattle.locked_map.specs.Vocabulary.{stance_after, End, IsSameSide, Leveled}
 use Rattle.locked_map.specs.Tokens.{Token}
 use Rattle.undo_log.specs.Sides.{IsSettled, HasLevel, IsBackAt}
 use Rattle.txn_drive.specs.declared.call.Call.TheVariants as calls
@@ -17,16 +17,16 @@ refusal_of_help half (calls.Help key) = if is_bad_key half key then Some BadKey 
 refusal_of_help half call = None
 
 -- The refusal with which a token refuses a call, if it does. If the token is broken or its entries
--- give it no seat, this is `OutOfStep`. Otherwise it is the refusal that this seat gives. If the
--- seat gives none, it is `BadKey` for help with a bad key.
-abbrev pub refused_at : Bool → Bool → Option Seat → Call → Option Refusal
-refused_at half true seat call = Some OutOfStep
+-- give it no stance, this is `OutOfStep`. Otherwise it is the refusal that this stance gives. If the
+-- stance gives none, it is `BadKey` for help with a bad key.
+abbrev pub refused_at : Bool → Bool → Option Stance → Call → Option Refusal
+refused_at half true stance call = Some OutOfStep
 refused_at half false None call = Some OutOfStep
 refused_at half false (Some s) call =
     option_or (refusal_in half s (first_step 0 call)) (refusal_of_help half call)
 
 abbrev pub refused_by : {S : Type 0} → Token S → Call → Option Refusal
-refused_by k call = refused_at k.limits.half k.broken (seat_after k.seen) call
+refused_by k call = refused_at k.limits.half k.broken (stance_after k.seen) call
 
 -- The token does not refuse the call, but is not ready for it. Either memory was refused for one
 -- more right or one more level: then the token is unchanged. Or the side value does not have the

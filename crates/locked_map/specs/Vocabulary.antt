@@ -3,7 +3,7 @@ pub use Rattle.atomic_table.specs.Seated.{TableId}
 pub use Rattle.boost_core.specs.Helps.{HelpSuits}
 pub use Rattle.boost_core.specs.Machine.{IsAllowed, Move}
 pub use Rattle.boost_core.specs.Refusals.{lacks_in}
-pub use Rattle.boost_core.specs.State.{State, caller_changes, holder_by, seat_in}
+pub use Rattle.boost_core.specs.State.{State, caller_changes, holder_by, stance_in}
 pub use Rattle.boost_core.specs.Whole.{IsWhole}
 pub use Rattle.boost_core.specs.Words.{Goes, is_ask}
 pub use Rattle.boost_core.specs.declared.claim.Claim.{Claim}
@@ -33,15 +33,15 @@ pub use Rattle.txn_trace.specs.Legal.{IsLegal}
 pub use Rattle.txn_words.specs.Entries.{entries_of}
 pub use Rattle.txn_words.specs.Kinds.{caller_of}
 pub use Rattle.txn_words.specs.Owed.{owed_by, owed_in, reserved}
-pub use Rattle.txn_words.specs.Seats.{is_closed, refusal_in}
-pub use Rattle.txn_words.specs.Shape.{IsShaped, RoomySeat, Seat, closed_seat, own, row, seat_after}
+pub use Rattle.txn_words.specs.Stances.{is_closed, refusal_in}
+pub use Rattle.txn_words.specs.Shape.{IsShaped, RoomyStance, Stance, closed_stance, own, row, stance_after}
 pub use Rattle.txn_words.specs.Sizes.{Sizes, are_limits, is_bad_key}
 pub use Rattle.txn_words.specs.declared.answer.Answer.{Answer}
 pub use Rattle.txn_words.specs.declared.entry.Entry.{Entry}
 pub use Rattle.txn_words.specs.declared.op.Op.{Op}
 pub use Rattle.txn_words.specs.declared.refusal.Refusal.{Refusal}
 pub use Rattle.txn_words.specs.declared.refusal.Refusal.TheVariants.{BadKey, NoMemory, NothingToSeek, OutOfStep, StaleWord, StampsUsedUp}
-pub use Rattle.txn_words.specs.declared.seat.Phase.{Phase as Standing}
+pub use Rattle.txn_words.specs.declared.stance.Phase.{Phase as Standing}
 pub use Rattle.txn_words.specs.declared.step.Step.{Step}
 pub use Rattle.txn_words.specs.declared.step.Step.TheVariants.{Act, Ask, Begin}
 pub use Rattle.undo_log.specs.SideValue.{Leveled}

@@ -8,7 +8,7 @@ ghost use Rattle.std.specs.Prelude.{◌≡◌, ◌≢◌, ◌<◌, true, false, 
 ghost use Rattle.std.specs.Prelude.{None, [], ◌∷◌, List, ◌+◌, IfSome, IfNone, IfErr, OnOk, OnErr};
 ghost use Rattle.txn_words.specs.declared.entry.Entry.{Entry};
 ghost use Rattle.txn_words.specs.declared.refusal.Refusal.{Refusal};
-ghost use Rattle.txn_words.specs.Shape.{Seat, seat_after};
+ghost use Rattle.txn_words.specs.Shape.{Stance, stance_after};
 ghost use Rattle.txn_drive.specs.declared.«end».End.{End};
 ghost use Rattle.txn_drive.specs.Drives.{first_step};
 ghost use Rattle.locked_map.specs.Claims.{IsIdle, Readies, claims_at};
@@ -55,7 +55,7 @@ pub struct Caller<L: Ledger, S: Side> {
 
 impl<L: Ledger, S: Side> Model for Caller<L, S> {
     ghost use Rattle.std.specs.Prelude.{◌≡◌, true, false, is_some};
-    ghost use Rattle.txn_words.specs.Shape.{seat_after};
+    ghost use Rattle.txn_words.specs.Shape.{stance_after};
     ghost use Rattle.locked_map.specs.Tokens.{IsNumbered, Token};
 
     ghost Value = { Token S };
@@ -70,7 +70,7 @@ impl<L: Ledger, S: Side> Model for Caller<L, S> {
     } };
 
     ghost invariant = { λ c. IsNumbered c.number c.limits c.claims
-        × (c.is_broken ≡ false → is_some (seat_after c.seen.entries) ≡ true) };
+        × (c.is_broken ≡ false → is_some (stance_after c.seen.entries) ≡ true) };
 }
 
 impl<L: Ledger, S: Side> Caller<L, S> {
@@ -125,7 +125,7 @@ impl<L: Ledger, S: Side> Caller<L, S> {
     /// `txn_trace::Unpacked` to read them as values of `Entry`.
     pub fn seen(&self) -> &[SmallEntry]
         ensures seen { result.now ≡ self.now.seen }
-        ensures rows { self.now.broken ≡ false → is_some (seat_after self.now.seen) ≡ true }
+        ensures rows { self.now.broken ≡ false → is_some (stance_after self.now.seen) ≡ true }
     {
         self.seen.entries()
     }
@@ -226,8 +226,8 @@ impl<L: Ledger, S: Side> Caller<L, S> {
         if self.is_broken {
             return Some(Refusal::OutOfStep);
         }
-        let by_seat = self.seen.refusal(self.limits, first_step(call));
-        by_seat.or(help_refusal(self.limits, call))
+        let by_stance = self.seen.refusal(self.limits, first_step(call));
+        by_stance.or(help_refusal(self.limits, call))
     }
 
     /// The number of the last transaction that the caller began, or 0 if the caller has begun none.
@@ -240,7 +240,7 @@ impl<L: Ledger, S: Side> Caller<L, S> {
     /// The number of savepoints of the caller's transaction. A broken token may have seen entries
     /// that its phase does not allow. Such entries do not change the result.
     pub fn levels(&self) -> u64
-        ensures { (s : Seat) → seat_after self.now.seen ≡ Some s → length s.kept ≡ result + 1 }
+        ensures { (s : Stance) → stance_after self.now.seen ≡ Some s → length s.kept ≡ result + 1 }
     {
         self.seen.levels()
     }
@@ -393,7 +393,7 @@ impl<L: Ledger, S: Side> Caller<L, S> {
     }
 }
 
-/// The first step of a call. The caller's seat refuses the call if it refuses this first step.
+/// The first step of a call. The caller's stance refuses the call if it refuses this first step.
 fn first_step(call: Call) -> Step
     ensures { result ≡ first_step 0 call }
 {

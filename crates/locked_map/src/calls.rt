@@ -23,7 +23,7 @@
 ghost use Rattle.std.specs.Prelude.{◌≡◌, ◌↔◌, ℕ, ◌+◌, [], ◌∷◌, ◌++◌, length, None, Some, true};
 ghost use Rattle.std.specs.Prelude.{false, Err, IfOk, IfErr, OnOk};
 ghost use Rattle.txn_words.specs.declared.entry.Entry.TheVariants as entries;
-ghost use Rattle.txn_words.specs.Shape.{Seat, seat_after};
+ghost use Rattle.txn_words.specs.Shape.{Stance, stance_after};
 ghost use Rattle.txn_words.specs.Sizes.{is_bad_key};
 ghost use Rattle.txn_drive.specs.Made.{undone_by};
 ghost use Rattle.locked_map.specs.Claims.{given_back};
@@ -234,7 +234,7 @@ impl<L: Ledger> SharedMap<L> {
     /// Takes one hold of the lock, which lasts amortized constant time. May take memory.
     pub fn save<S: Side, R: Wait>(&self, rt: &R, me: &mut Caller<L, S>) -> Result<u64, Stop>
         ensures ok { OnOk result (me.new.seen ≡ me.old.seen ++ entries.Saved me.old.number ∷ []) }
-        ensures level { IfOk result (λ level. (s : Seat) → seat_after me.new.seen ≡ Some s
+        ensures level { IfOk result (λ level. (s : Stance) → stance_after me.new.seen ≡ Some s
             → length s.kept ≡ level + 1) }
         ensures side { OnOk result (HasLevel S.words_of me.old.side me.new.side) }
         ensures claims { OnOk result (me.new.claims ≡ me.old.claims) }

@@ -1,4 +1,4 @@
-//! The entries that a caller has seen, the caller's seat after these entries, and its share of the
+//! The entries that a caller has seen, the caller's stance after these entries, and its share of the
 //! ledger. They are one type, since `note` adds an entry to all three. Invariant: the share counts
 //! the entries, and there is room for all entries that the caller owes, so no commit or abort is
 //! refused memory here.
@@ -7,16 +7,16 @@ ghost use Rattle.std.specs.Prelude.{Some, OnOk, OnErr};
 ghost use Rattle.txn_words.specs.Entries.{entries_of};
 ghost use Rattle.txn_words.specs.Owed.{owed_by};
 ghost use Rattle.txn_words.specs.Packed.{is_small};
-ghost use Rattle.txn_words.specs.Shape.{Seat as Standing, seat_after};
-ghost use Rattle.txn_words.specs.Seats.{refusal_in};
+ghost use Rattle.txn_words.specs.Shape.{Stance as Standing, stance_after};
+ghost use Rattle.txn_words.specs.Stances.{refusal_in};
 ghost use Rattle.locked_map.specs.Noted.{AddsSmall, HasRoomFor, adds_entry, began_by, last_txn};
 
 use std::alloc::{AllocError, Global};
 use std::marker::Model;
 use std::sync::ledger::{Book, Ledger, Share};
-use txn_trace::{Answer, Entry, Limits, Refusal, Seat, SmallEntry, Step, entry_of};
+use txn_trace::{Answer, Entry, Limits, Refusal, SmallEntry, Stance, Step, entry_of};
 
-/// The entries that a caller's calls have added, in order, and the caller's seat after these
+/// The entries that a caller's calls have added, in order, and the caller's stance after these
 /// entries.
 ///
 /// The type guarantees that there is room for all entries that the caller owes, and that the share
@@ -24,7 +24,7 @@ use txn_trace::{Answer, Entry, Limits, Refusal, Seat, SmallEntry, Step, entry_of
 #[derive(Drop)]
 pub(crate) struct Seen<L: Ledger> {
     entries: Vec<SmallEntry>,
-    seat: Seat,
+    stance: Stance,
     is_whole: bool,
     txn: u64,
     pub(crate) share: Share<L>,
@@ -39,11 +39,11 @@ impl<L: Ledger> Model for Seen<L> {
     ghost view = { λ s. record {
       entries = s.entries.items;
       room = vec_capacity s.entries - vec_len s.entries;
-      save_room = s.seat.room;
+      save_room = s.stance.room;
     } };
 
     ghost invariant = { λ s.
-        IsNoted s.entries s.seat s.is_whole s.txn s.share.parts s.share.amount };
+        IsNoted s.entries s.stance s.is_whole s.txn s.share.parts s.share.amount };
 }
 
 impl<L: Ledger> Seen<L> {
@@ -55,7 +55,7 @@ impl<L: Ledger> Seen<L> {
     {
         Seen {
             entries: Vec::new(alloc),
-            seat: Seat::new(alloc),
+            stance: Stance::new(alloc),
             is_whole: true,
             txn: 0,
             share,
@@ -65,7 +65,7 @@ impl<L: Ledger> Seen<L> {
     /// The entries, packed.
     pub(crate) fn entries(&self) -> &[SmallEntry]
         ensures value { result.now ≡ self.now.entries }
-        ensures room { owed_by (seat_after self.now.entries) ≤ self.now.room }
+        ensures room { owed_by (stance_after self.now.entries) ≤ self.now.room }
         ensures small { length self.now.entries < 2 ^ 63 }
     {
         &self.entries
@@ -73,7 +73,7 @@ impl<L: Ledger> Seen<L> {
 
     /// Whether the rule of shape allows each entry.
     pub(crate) fn is_whole(&self) -> bool
-        ensures { result ≡ is_some (seat_after self.now.entries) }
+        ensures { result ≡ is_some (stance_after self.now.entries) }
     {
         self.is_whole
     }
@@ -87,19 +87,19 @@ impl<L: Ledger> Seen<L> {
 
     /// The number of savepoints of the caller's transaction.
     pub(crate) fn levels(&self) -> u64
-        ensures { (s : Standing) → seat_after self.now.entries ≡ Some s
+        ensures { (s : Standing) → stance_after self.now.entries ≡ Some s
             → length s.kept ≡ result + 1 }
     {
-        self.seat.levels()
+        self.stance.levels()
     }
 
-    /// The refusal that the caller's seat gives to a step under these limits, if it refuses the
+    /// The refusal that the caller's stance gives to a step under these limits, if it refuses the
     /// step.
     pub(crate) fn refusal(&self, limits: Limits, step: Step) -> Option<Refusal>
-        ensures { (s : Standing) → seat_after self.now.entries ≡ Some s
+        ensures { (s : Standing) → stance_after self.now.entries ≡ Some s
             → result ≡ refusal_in limits.half s step }
     {
-        self.seat.refusal(limits, step)
+        self.stance.refusal(limits, step)
     }
 
     /// Makes room for `entries` more entries.
@@ -121,7 +121,7 @@ impl<L: Ledger> Seen<L> {
     /// `AllocError` if memory is refused, which happens only if there was no such room.
     #[inline(always)]
     pub(crate) fn reserve(&mut self, step: Step) -> Result<(), AllocError>
-        requires { is_some (seat_after self.old.entries) ≡ true }
+        requires { is_some (stance_after self.old.entries) ≡ true }
         ensures entries { self.new.entries ≡ self.old.entries }
         ensures ok { OnOk result (HasRoomFor self.new step) }
         ensures full { OnErr result (HasRoomFor self.old step → ⊥) }
@@ -131,10 +131,10 @@ impl<L: Ledger> Seen<L> {
         if !adds_entry(step) {
             return Ok(());
         }
-        let wanted = (self.seat.owed() + step.entry_room()).max(1);
+        let wanted = (self.stance.owed() + step.entry_room()).max(1);
         self.entries.reserve(wanted as usize)?;
         if let Step::Save(_) = step {
-            self.seat.reserve_level()?;
+            self.stance.reserve_level()?;
         }
         Ok(())
     }
@@ -143,7 +143,7 @@ impl<L: Ledger> Seen<L> {
     /// book.
     #[inline(always)]
     pub(crate) fn note(&mut self, book: &mut Book<L>, step: Step, answer: Answer)
-        requires whole { is_some (seat_after self.old.entries) ≡ true }
+        requires whole { is_some (stance_after self.old.entries) ≡ true }
         requires room { HasRoomFor self.old step }
         requires small { AddsSmall step answer }
         ensures entries { self.new.entries ≡ self.old.entries ++ entries_of step answer }
@@ -156,7 +156,7 @@ impl<L: Ledger> Seen<L> {
             return;
         };
         self.entries.push_reserved(packed(entry));
-        self.is_whole = self.seat.enter(entry);
+        self.is_whole = self.stance.enter(entry);
         self.txn = began_by(self.txn, entry);
         book.add(&mut self.share, 1);
     }

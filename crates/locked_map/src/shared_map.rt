@@ -1,7 +1,7 @@
 //! The shared map: the core under its lock, and the turns of a drive, each under one hold of the
 //! lock. Between two holds only the invariants of the core's type are known.
 ghost use Rattle.std.specs.Prelude.{◌≡◌, true, IfOk, IfErr};
-ghost use Rattle.txn_words.specs.Shape.{seat_after};
+ghost use Rattle.txn_words.specs.Shape.{stance_after};
 ghost use Rattle.txn_drive.specs.Drives.{first_phase};
 ghost use Rattle.locked_map.specs.Holds.{FitsIf, HasRun, is_out};
 ghost use Rattle.locked_map.specs.Tokens.{AreTickets, HasTried, IsSameCaller, IsSameClaims};
@@ -134,7 +134,7 @@ impl<L: Ledger> SharedMap<L> {
         call: Call,
         hears: &H,
     ) -> End
-        requires fits { FitsIf (seat_after me.old.seen) call
+        requires fits { FitsIf (stance_after me.old.seen) call
             (first_phase me.old.limits.half call) }
         requires tried { HasTried me.old call }
         ensures side { me.new.side ≡ me.old.side }

@@ -7,7 +7,7 @@ ghost use Rattle.std.specs.Prelude.{◌≡◌, ℕ, true, false, Some, List, [],
 ghost use Rattle.txn_words.specs.declared.entry.Entry.{Entry};
 ghost use Rattle.txn_words.specs.declared.refusal.Refusal.{Refusal};
 ghost use Rattle.txn_words.specs.Entries.{entries_of};
-ghost use Rattle.txn_words.specs.Shape.{seat_after};
+ghost use Rattle.txn_words.specs.Shape.{stance_after};
 ghost use Rattle.txn_words.specs.Sizes.{Sizes};
 ghost use Rattle.txn_drive.specs.Drives.{step_of, turn_of};
 ghost use Rattle.txn_drive.specs.Made.{made};

@@ -5,7 +5,7 @@ use Rattle.txn_words.specs.declared.entry.Entry.{Entry}
 use Rattle.txn_words.specs.Map.{Map, empty, get}
 use Rattle.txn_trace.specs.History.{of}
 use Rattle.txn_trace.specs.Alone.{alone, map_after, last_map}
-use Rattle.txn_trace.proofs.Seated.{the_some}
+use Rattle.txn_trace.proofs.StanceRuns.{the_some}
 use Rattle.order_check.specs.Lists.{IsIn}
 use Rattle.order_check.specs.Footprints.{Footprint, no_values, leaves, RunsFrom}
 use Rattle.order_check.specs.Orders.{IsOrderOf}

@@ -20,26 +20,26 @@ use Rattle.txn_words.specs.declared.answer.Answer.{Answer}
 use Rattle.txn_words.specs.declared.answer.Answer.TheVariants as answers
 use Rattle.txn_words.specs.declared.entry.Entry.TheVariants as entry
 use Rattle.txn_words.specs.declared.holder.Holder.TheVariants.{Now}
-use Rattle.txn_words.specs.declared.seat.Phase.TheVariants.{Opened}
+use Rattle.txn_words.specs.declared.stance.Phase.TheVariants.{Opened}
 use Rattle.txn_trace.specs.Legal.{IsLegal, is_running}
 use Rattle.txn_trace.specs.Locks.{stripe_of, is_locked, holder_of}
 use Rattle.txn_words.specs.Map.{Map, key_of}
 use Rattle.txn_trace.specs.Now.{now}
 use Rattle.txn_words.specs.Ordered.{split_cmp, ordered}
-use Rattle.txn_words.specs.Seats.{is_closed, is_leaving, is_waiting}
-use Rattle.txn_words.specs.Shape.{Seat, closed_seat, seat_after, own}
+use Rattle.txn_words.specs.Stances.{is_closed, is_leaving, is_waiting}
+use Rattle.txn_words.specs.Shape.{Stance, closed_stance, stance_after, own}
 use Rattle.txn_words.specs.Sizes.{Sizes, are_limits, is_bad_key}
 use Rattle.txn_trace.proofs.Holders.{is_locked-busy}
 use Rattle.txn_trace.proofs.HeldStripes.{holder_running}
 use Rattle.txn_words.proofs.Order.{split_cmp_tied, value_at, value_at-ordered}
-use Rattle.boost_core.specs.State.{State, holder_by, seat_in}
+use Rattle.boost_core.specs.State.{State, holder_by, stance_in}
 use Rattle.boost_core.specs.Refusals.{refusal_of, MayLack, has_stamp_for}
 use Rattle.boost_core.specs.Machine.{IsAllowed, Move}
 use Rattle.boost_core.specs.Plain.{Operates}
 use Rattle.owned_map.specs.Within.{IsAt, OnlyWorked, IsGrown}
 use Rattle.owned_map.specs.Taken.{HasTakenKeys}
 use Rattle.owned_map.specs.Trimmed.{IsFilling, LacksFor}
-use Rattle.owned_map.proofs.Histories.{seat_there}
+use Rattle.owned_map.proofs.Histories.{stance_there}
 use Rattle.owned_map.proofs.Only as only
 use Rattle.owned_map.proofs.Growing.{KeepsHistory, kept_by}
 use Rattle.owned_map.proofs.Steps.{begins, does, based, phase_in}
@@ -55,20 +55,20 @@ within_of : (s : State) → 0 < s.limits.callers → nat_le s.limits.callers 0 �
 within_of s there = lt-leb s.limits.callers 0 there
 
 -- If the phase of caller 0 is `Opened`, `IsAt` holds for this caller.
-at_open : (s : State) → IsLegal (holder_by s.words) s.limits.stripes s.history → nat_le s.limits.callers 0 ≡ false → (seat_in s.history 0).phase ≡ Opened → IsAt 0 (based 0 s) Opened s
+at_open : (s : State) → IsLegal (holder_by s.words) s.limits.stripes s.history → nat_le s.limits.callers 0 ≡ false → (stance_in s.history 0).phase ≡ Opened → IsAt 0 (based 0 s) Opened s
 at_open s legal within opened =
-    let seat = seat_there 0 s.history legal.shape in
+    let stance = stance_there 0 s.history legal.shape in
     record {
       within = within;
       legal = legal;
-      seat = seat.0;
-      seat_is = seat.1;
-      phase_is = sym (ap (λ (o : Option Seat). (unwrap_or o closed_seat).phase) seat.1) ∙ opened;
+      stance = stance.0;
+      stance_is = stance.1;
+      phase_is = sym (ap (λ (o : Option Stance). (unwrap_or o closed_stance).phase) stance.1) ∙ opened;
       back = refl;
     }
 
-opened_at : (s : State) (base : Map) → IsAt 0 base Opened s → (seat_in s.history 0).phase ≡ Opened
-opened_at s base stands = ap (λ (seat : Seat). seat.phase) (phase_in 0 base Opened s stands) ∙ stands.phase_is
+opened_at : (s : State) (base : Map) → IsAt 0 base Opened s → (stance_in s.history 0).phase ≡ Opened
+opened_at s base stands = ap (λ (stance : Stance). stance.phase) (phase_in 0 base Opened s stands) ∙ stands.phase_is
 
 others : (old new : State) → ((d : ℕ) → d ≢ 0 → own d old.history ≡ []) → OnlyWorked 0 old new → (d : ℕ) → d ≢ 0 → own d new.history ≡ []
 others old new none beside d apart = beside.only d apart ∙ none d apart
@@ -93,7 +93,7 @@ lacked state step refusal free (inr is) = is.1
 begin_free : (s : State) → s.history ≡ [] → nat_le s.limits.callers 0 ≡ false → refusal_of s (Begin 0) ≡ None
 begin_free s blank within =
     ap (λ h. cond (nat_le s.limits.callers 0) (Some refusals.NoSuchCaller)
-    (cond (is_leaving (seat_in h 0).phase) (Some refusals.Leaving) (cond (not (is_closed (seat_in h 0).phase)) (Some refusals.AlreadyOpen) None))) blank
+    (cond (is_leaving (stance_in h 0).phase) (Some refusals.Leaving) (cond (not (is_closed (stance_in h 0).phase)) (Some refusals.AlreadyOpen) None))) blank
     ∙ ap (λ b. cond b (Some refusals.NoSuchCaller) None) within
 
 pub begin_lacks : (old new : State) (refusal : Refusal) → old.history ≡ [] → 0 < old.limits.callers → Move old (Begin 0) (answers.Refused refusal) new → refusal ≡ refusals.NoMemory
@@ -101,11 +101,11 @@ begin_lacks old new refusal blank there move = lacks_begin old refusal (lacked o
 
 -- If caller 0 exists and its transaction is open, the first four tests of a step pass, and the
 -- result is `rest`.
-ready_for : (s : State) (rest : Option Refusal) → nat_le s.limits.callers 0 ≡ false → (seat_in s.history 0).phase ≡ Opened
+ready_for : (s : State) (rest : Option Refusal) → nat_le s.limits.callers 0 ≡ false → (stance_in s.history 0).phase ≡ Opened
     → cond (nat_le s.limits.callers 0) (Some refusals.NoSuchCaller)
-    (cond (is_closed (seat_in s.history 0).phase) (Some refusals.NotOpen)
-    (cond (is_leaving (seat_in s.history 0).phase) (Some refusals.Leaving)
-    (cond (is_waiting (seat_in s.history 0).phase) (Some refusals.OperationUnfinished) rest))) ≡ rest
+    (cond (is_closed (stance_in s.history 0).phase) (Some refusals.NotOpen)
+    (cond (is_leaving (stance_in s.history 0).phase) (Some refusals.Leaving)
+    (cond (is_waiting (stance_in s.history 0).phase) (Some refusals.OperationUnfinished) rest))) ≡ rest
 ready_for s rest within opened =
     ap (λ q. cond (nat_le s.limits.callers 0) (Some refusals.NoSuchCaller)
     (cond (is_closed q) (Some refusals.NotOpen)
@@ -147,7 +147,7 @@ never_busy old new op x filling ordinary legal event =
     let parts = and_parts (not (x == 0)) (option_eq nat_eq (holder_of old.limits.stripes stripe old.history) (Some x))
     (sym (is_locked-busy Now old.limits.stripes old.history 0 op x legal_now.shape legal_now.locks) ∙ by_now) in
     let running = holder_running old.limits.stripes old.history legal_now.shape stripe x (held (holder_of old.limits.stripes stripe old.history) parts.1) in
-    false≢true (sym (ap (λ es. is_running (seat_after es)) (filling.alone x (apart x parts.0))) ∙ running)
+    false≢true (sym (ap (λ es. is_running (stance_after es)) (filling.alone x (apart x parts.0))) ∙ running)
   where
     held : (o : Option ℕ) → option_eq nat_eq o (Some x) ≡ true → o ≡ Some x
     held None is = absurd (false≢true is)
@@ -174,7 +174,7 @@ pub put_on : (old between new : State) (k v : ℕ) (x : Option ℕ) → IsFillin
     → Operates old 0 (Put k v) (answers.Done x) between → IsGrown 0 between new → IsFilling new
 put_on old between new k v x filling legal operates grows = record {
   there = subst (λ (l : Sizes). 0 < l.callers) (sym (grown.limits ∙ kept_limits old between (Put k v) x operates)) filling.there;
-  opened = ap (λ h. (seat_in h 0).phase) grown.history ∙ opened_at between (based 0 old) (does old between 0 (based 0 old) (Put k v) x (at_open old legal (within_of old filling.there) filling.opened) operates).0;
+  opened = ap (λ h. (stance_in h 0).phase) grown.history ∙ opened_at between (based 0 old) (does old between 0 (based 0 old) (Put k v) x (at_open old legal (within_of old filling.there) filling.opened) operates).0;
   alone = λ d apart. ap (own d) grown.history ∙ others old between filling.alone (only.operated 0 old between (Put k v) (answers.Done x) operates) d apart;
 }
   where

@@ -14,17 +14,17 @@ use Rattle.txn_words.specs.declared.step.Step.{Step}
 use Rattle.txn_words.specs.declared.step.Step.TheVariants.{Seek, Act, Save}
 use Rattle.txn_words.specs.declared.answer.Answer.{Answer}
 use Rattle.txn_words.specs.declared.answer.Answer.TheVariants as answers
-use Rattle.txn_words.specs.declared.seat.Phase.{Phase}
-use Rattle.txn_words.specs.declared.seat.Phase.TheVariants.{Opened, LeavingTo}
+use Rattle.txn_words.specs.declared.stance.Phase.{Phase}
+use Rattle.txn_words.specs.declared.stance.Phase.TheVariants.{Opened, LeavingTo}
 use Rattle.txn_words.specs.declared.holder.Holder.{Holder}
 use Rattle.txn_words.specs.Map.{Map}
 use Rattle.txn_words.specs.Sizes.{Sizes}
 use Rattle.txn_trace.specs.Now.{now}
-use Rattle.txn_words.specs.Shape.{Seat, seat_after, own, row, is_numbered, IsShaped}
+use Rattle.txn_words.specs.Shape.{Stance, stance_after, own, row, is_numbered, IsShaped}
 use Rattle.txn_trace.specs.Legal.{IsLegal}
-use Rattle.txn_trace.proofs.EntrySteps.{seat-own}
+use Rattle.txn_trace.proofs.EntrySteps.{stance-own}
 use Rattle.txn_trace.proofs.Entries as laws
-use Rattle.boost_core.specs.State.{State, holder_by, seat_in}
+use Rattle.boost_core.specs.State.{State, holder_by, stance_in}
 use Rattle.boost_core.specs.Refusals.{is_closed, is_leaving, is_waiting, has_job}
 use Rattle.boost_core.specs.Machine.{Move, Moves}
 use Rattle.boost_core.specs.Plain.{Returns, undoing, undone}
@@ -37,29 +37,29 @@ use Rattle.boost_core.proofs.SideRefusals.{first_none}
 module _ {rule : Holder} (limits : Sizes) (c : ℕ) (base : Map) (h : List Entry) where
   saved_now : IsBasedOn rule limits c base Opened h → IsBasedOn rule limits c base Opened (h ++ entry.Saved c ∷ []) × (now (h ++ entry.Saved c ∷ []) ≡ now h)
   saved_now stands =
-      let next = laws.saved limits.stripes h stands.legal c stands.seat stands.seat_is stands.phase_is in (
+      let next = laws.saved limits.stripes h stands.legal c stands.stance stands.stance_is stands.phase_is in (
         subst (λ q. IsBasedOn rule limits c base q (h ++ entry.Saved c ∷ [])) stands.phase_is
             (stands_after limits c base h (entry.Saved c) refl stands.within _ _ _ _ _ next stands.back),
         next.now_is,
       )
 
-  pub left_to_now : (n : ℕ) (stands : IsBasedOn rule limits c base Opened h) → n < length stands.seat.kept → IsBasedOn rule limits c base (LeavingTo n) (h ++ entry.Leave c (Some n) ∷ [])
+  pub left_to_now : (n : ℕ) (stands : IsBasedOn rule limits c base Opened h) → n < length stands.stance.kept → IsBasedOn rule limits c base (LeavingTo n) (h ++ entry.Leave c (Some n) ∷ [])
   left_to_now n stands within =
-      stands_after limits c base h (entry.Leave c (Some n)) refl stands.within _ _ _ _ _ (laws.left_to limits.stripes h stands.legal c n stands.seat stands.seat_is stands.phase_is within) stands.back
+      stands_after limits c base h (entry.Leave c (Some n)) refl stands.within _ _ _ _ _ (laws.left_to limits.stripes h stands.legal c n stands.stance stands.stance_is stands.phase_is within) stands.back
 
-  pub undone_to_now : (n : ℕ) (stands : IsBasedOn rule limits c base (LeavingTo n) h) → slice_index stands.seat.kept n < stands.seat.standing → IsBasedOn rule limits c base (LeavingTo n) (h ++ entry.Undone c ∷ [])
+  pub undone_to_now : (n : ℕ) (stands : IsBasedOn rule limits c base (LeavingTo n) h) → slice_index stands.stance.kept n < stands.stance.standing → IsBasedOn rule limits c base (LeavingTo n) (h ++ entry.Undone c ∷ [])
   undone_to_now n stands more =
-      let newest = laws.newest h c stands.seat stands.seat_is (some_of (slice_index stands.seat.kept n) stands.seat.standing more) in
-      let next = laws.undone_to limits.stripes h stands.legal c n stands.seat stands.seat_is stands.phase_is more newest.0 newest.1 newest.2 in
+      let newest = laws.newest h c stands.stance stands.stance_is (some_of (slice_index stands.stance.kept n) stands.stance.standing more) in
+      let next = laws.undone_to limits.stripes h stands.legal c n stands.stance stands.stance_is stands.phase_is more newest.0 newest.1 newest.2 in
       subst (λ q. IsBasedOn rule limits c base q (h ++ entry.Undone c ∷ [])) stands.phase_is
       (stands_after limits c base h (entry.Undone c) refl stands.within _ _ _ _ _ next (ap (λ l. taken_back l (now h)) (sym newest.2) ∙ stands.back))
     where
       some_of : (m k : ℕ) → m < k → 0 < k
       some_of m k less = omega arith
 
-  pub returned_now : (n : ℕ) (stands : IsBasedOn rule limits c base (LeavingTo n) h) → slice_index stands.seat.kept n ≡ stands.seat.standing → IsBasedOn rule limits c base Opened (h ++ entry.Returned c n ∷ [])
+  pub returned_now : (n : ℕ) (stands : IsBasedOn rule limits c base (LeavingTo n) h) → slice_index stands.stance.kept n ≡ stands.stance.standing → IsBasedOn rule limits c base Opened (h ++ entry.Returned c n ∷ [])
   returned_now n stands reached =
-      stands_after limits c base h (entry.Returned c n) refl stands.within _ _ _ _ _ (laws.returned limits.stripes h stands.legal c n stands.seat stands.seat_is stands.phase_is reached) stands.back
+      stands_after limits c base h (entry.Returned c n) refl stands.within _ _ _ _ _ (laws.returned limits.stripes h stands.legal c n stands.stance stands.stance_is stands.phase_is reached) stands.back
 
 -- If a savepoint is set, the transaction stays open and the map is unchanged.
 saves : (old new : State) (c : ℕ) (base : Map) (n : ℕ) → IsAt c base Opened old → Move old (Save c) (answers.Saved n) new → IsAt c base Opened new × (now new.history ≡ now old.history)
@@ -87,9 +87,9 @@ no_other_save old new c _ not_saved not_refused move = absurd move.allowed.1
 one_back : (old between new : State) (c : ℕ) (base : Map) (n : ℕ) → IsAt c base (LeavingTo n) old → Move old (Seek c) answers.Placed between → Move between (Act c) answers.Undone new → IsAt c base (LeavingTo n) new
 one_back old between new c base n stands seek act =
     let sought = to_state c base (LeavingTo n) _ between seek.state (unmoved c base (LeavingTo n) old stands) in
-    let job : has_job sought.seat ≡ true = subst (λ (seat : Seat). has_job seat ≡ true) (phase_in c base (LeavingTo n) between sought) act.allowed.1 in
-    let more : nat_lt (slice_index sought.seat.kept n) sought.seat.standing ≡ true = subst (λ q. has_job (record (sought.seat) { phase = q }) ≡ true) sought.phase_is job in
-    to_state c base (LeavingTo n) _ new act.state (undone_to_now between.limits c base between.history n sought (ltb-true (slice_index sought.seat.kept n) sought.seat.standing more))
+    let job : has_job sought.stance ≡ true = subst (λ (stance : Stance). has_job stance ≡ true) (phase_in c base (LeavingTo n) between sought) act.allowed.1 in
+    let more : nat_lt (slice_index sought.stance.kept n) sought.stance.standing ≡ true = subst (λ q. has_job (record (sought.stance) { phase = q }) ≡ true) sought.phase_is job in
+    to_state c base (LeavingTo n) _ new act.state (undone_to_now between.limits c base between.history n sought (ltb-true (slice_index sought.stance.kept n) sought.stance.standing more))
 
 backwards : (old new : State) (c : ℕ) (base : Map) (n changes : ℕ) (steps : List Step) (others : List Answer) → IsAt c base (LeavingTo n) old → Moves old (undoing changes c steps) (undone changes others) new
     → (between : State) × IsAt c base (LeavingTo n) between × Moves between steps others new
@@ -100,17 +100,17 @@ backwards old new c base n (suc changes) steps others stands moves =
 
 -- If a Returned entry has the right shape, it names the level that the caller goes back to, and the
 -- caller has taken back all changes since this level was set.
-pub reached_at : (c n m : ℕ) (h : List Entry) (seat : Seat) → seat_after (own c h) ≡ Some seat → seat.phase ≡ LeavingTo n → IsShaped (h ++ entry.Returned c m ∷ []) → (n ≡ m) × (slice_index seat.kept n ≡ seat.standing)
-reached_at c n m h seat seat_is leaving shaped =
+pub reached_at : (c n m : ℕ) (h : List Entry) (stance : Stance) → stance_after (own c h) ≡ Some stance → stance.phase ≡ LeavingTo n → IsShaped (h ++ entry.Returned c m ∷ []) → (n ≡ m) × (slice_index stance.kept n ≡ stance.standing)
+reached_at c n m h stance stance_is leaving shaped =
     let e : Entry = entry.Returned c m in
-    let there : is_some (seat_after (own c (h ++ e ∷ []))) ≡ true =
-    (and_parts (is_some (seat_after (own c (h ++ e ∷ [])))) (is_numbered h e) (shaped h e ([], append-nil (h ++ e ∷ [])))).0 in
-    let as_row : is_some (row seat (LeavingTo n) e) ≡ true =
-    sym (ap is_some (seat-own h e ∙ ap (λ o. option_and_then (λ (s : Seat). row s s.phase e) o) seat_is ∙ ap (λ q. row seat q e) leaving)) ∙ there in
-    let parts = and_parts (n == m) (slice_index seat.kept n == seat.standing) (tested ((n == m) && (slice_index seat.kept n == seat.standing)) _ as_row) in
-    (eqb-true n m parts.0, eqb-true (slice_index seat.kept n) seat.standing parts.1)
+    let there : is_some (stance_after (own c (h ++ e ∷ []))) ≡ true =
+    (and_parts (is_some (stance_after (own c (h ++ e ∷ [])))) (is_numbered h e) (shaped h e ([], append-nil (h ++ e ∷ [])))).0 in
+    let as_row : is_some (row stance (LeavingTo n) e) ≡ true =
+    sym (ap is_some (stance-own h e ∙ ap (λ o. option_and_then (λ (s : Stance). row s s.phase e) o) stance_is ∙ ap (λ q. row stance q e) leaving)) ∙ there in
+    let parts = and_parts (n == m) (slice_index stance.kept n == stance.standing) (tested ((n == m) && (slice_index stance.kept n == stance.standing)) _ as_row) in
+    (eqb-true n m parts.0, eqb-true (slice_index stance.kept n) stance.standing parts.1)
   where
-    tested : (b : Bool) (s : Seat) → is_some (cond b (Some s) None) ≡ true → b ≡ true
+    tested : (b : Bool) (s : Stance) → is_some (cond b (Some s) None) ≡ true → b ≡ true
     tested true s there = refl
     tested false s there = absurd (false≢true there)
 
@@ -118,7 +118,7 @@ reached_at c n m h seat seat_is leaving shaped =
 -- too.
 pub past : (s : State) (c : ℕ) (rest : Option Refusal) → unready s c rest ≡ None → rest ≡ None
 past s c rest free =
-    let q : Phase = (seat_in s.history c).phase in
+    let q : Phase = (stance_in s.history c).phase in
     let waits : Option Refusal = cond (is_waiting q) (Some refusals.OperationUnfinished) rest in
     let leaves : Option Refusal = cond (is_leaving q) (Some refusals.Leaving) waits in
     let closes : Option Refusal = cond (is_closed q) (Some refusals.NotOpen) leaves in
@@ -130,13 +130,13 @@ past s c rest free =
 -- After a return to a level, the transaction is open and can still be taken back to `base`.
 returns : (old new : State) (c : ℕ) (base : Map) (n m : ℕ) → IsShaped new.history → IsAt c base Opened old → Returns old c n (answers.Returned m) new → IsAt c base Opened new
 returns old new c base n m shaped stands (same, left, leave, (changes, moves)) =
-    let level = first_none (nat_le (length (seat_in old.history c).kept) n) refusals.NoSuchLevel None
-    (past old c (cond (nat_le (length (seat_in old.history c).kept) n) (Some refusals.NoSuchLevel) None) leave.move.allowed.0) in
-    let within : n < length stands.seat.kept = leb-false (length stands.seat.kept) n (subst (λ (seat : Seat). nat_le (length seat.kept) n ≡ false) (phase_in c base Opened old stands) level.0) in
+    let level = first_none (nat_le (length (stance_in old.history c).kept) n) refusals.NoSuchLevel None
+    (past old c (cond (nat_le (length (stance_in old.history c).kept) n) (Some refusals.NoSuchLevel) None) leave.move.allowed.0) in
+    let within : n < length stands.stance.kept = leb-false (length stands.stance.kept) n (subst (λ (stance : Stance). nat_le (length stance.kept) n ≡ false) (phase_in c base Opened old stands) level.0) in
     let gone = to_state c base (LeavingTo n) _ left leave.move.state (left_to_now old.limits c base old.history n stands within) in
     let (between, there, (s1, act, last)) = backwards left new c base n changes (Act c ∷ []) (answers.Returned m ∷ []) gone moves in
     let whole : IsShaped (between.history ++ entry.Returned c m ∷ []) = subst IsShaped (ap (λ (s : State). s.history) (last ∙ act.move.state)) shaped in
-    let at = reached_at c n m between.history there.seat there.seat_is there.phase_is whole in
+    let at = reached_at c n m between.history there.stance there.stance_is there.phase_is whole in
     let back = returned_now between.limits c base between.history n there at.1 in
     to_state c base Opened _ new (last ∙ act.move.state) (subst (λ k. IsBasedOn (holder_by between.words) between.limits c base Opened (between.history ++ entry.Returned c k ∷ [])) at.0 back)
 

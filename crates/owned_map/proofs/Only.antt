@@ -17,7 +17,7 @@ use Rattle.txn_words.specs.Kinds.{caller_of, is_commit}
 use Rattle.txn_words.specs.Shape.{own}
 use Rattle.txn_trace.proofs.Pushes.{own-push_out}
 use Rattle.boost_core.specs.declared.owner.Owner.TheVariants.{Caller}
-use Rattle.boost_core.specs.State.{State, seat_in}
+use Rattle.boost_core.specs.State.{State, stance_in}
 use Rattle.boost_core.specs.Refusals.{owner_of}
 use Rattle.boost_core.specs.Answers.{is_at_end}
 use Rattle.boost_core.specs.Machine.{Move, Moves}
@@ -131,7 +131,7 @@ ended c old new answer (changes, moves) =
 
 pub aborted : (c : ℕ) (old new : State) (answer : Answer) → Aborts old c answer new → OnlyWorked c old new
 aborted c old new answers.Aborted (between, leaves, ends) =
-    after c old between new (left c old between (is_at_end (seat_in old.history c).phase) leaves) (ended c between new answers.Aborted ends)
+    after c old between new (left c old between (is_at_end (stance_in old.history c).phase) leaves) (ended c between new answers.Aborted ends)
 aborted c old new answers.Leaving none = absurd none
 aborted c old new answer refused = moved c old new (Abort c) answer (record { whose = refl; quiet = refl }) refused.1.move
 

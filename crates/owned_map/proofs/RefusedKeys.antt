@@ -22,7 +22,7 @@ use Rattle.txn_trace.specs.Serial.{serial}
 use Rattle.txn_words.specs.Sizes.{is_bad_key}
 use Rattle.txn_trace.proofs.Local.{AsksFor, AllAskFor, RunsAlike, alone_alike}
 use Rattle.txn_trace.proofs.Table.{get-now}
-use Rattle.boost_core.specs.State.{State, seat_in}
+use Rattle.boost_core.specs.State.{State, stance_in}
 use Rattle.boost_core.specs.Answers.{is_at_end}
 use Rattle.boost_core.specs.Machine.{IsAllowed, Move, Moves}
 use Rattle.boost_core.specs.Plain.{Operates, Returns, Aborts, Ends, Leaves, Drives, Helps, HelpsTo, undoing, undone}
@@ -88,7 +88,7 @@ ended c old new answer (changes, moves) well = all_moved old new (undoing change
 
 pub aborted : (old new : State) (c : ℕ) (answer : Answer) → Aborts old c answer new → asks_well old.limits.half old.history ≡ true → asks_well new.limits.half new.history ≡ true
 aborted old new c answers.Aborted (between, leaves, ends) well =
-    ended c between new answers.Aborted ends (left c old between (is_at_end (seat_in old.history c).phase) leaves well)
+    ended c between new answers.Aborted ends (left c old between (is_at_end (stance_in old.history c).phase) leaves well)
 aborted old new c answers.Leaving none well = absurd none
 aborted old new c answer refused well = moved old new (Abort c) answer refused.1.move well
 

@@ -13,22 +13,22 @@ use Rattle.txn_words.specs.declared.answer.Answer.{Answer}
 use Rattle.txn_words.specs.declared.answer.Answer.TheVariants as answers
 use Rattle.txn_words.specs.declared.entry.Entry.{Entry}
 use Rattle.txn_words.specs.declared.entry.Entry.TheVariants as entry
-use Rattle.txn_words.specs.declared.seat.Phase.{Phase}
-use Rattle.txn_words.specs.declared.seat.Phase.TheVariants.{Opened, Waiting, LeavingTo}
+use Rattle.txn_words.specs.declared.stance.Phase.{Phase}
+use Rattle.txn_words.specs.declared.stance.Phase.TheVariants.{Opened, Waiting, LeavingTo}
 use Rattle.txn_words.specs.Sizes.{Sizes}
 use Rattle.txn_words.specs.Map.{Map, key_of, reply_of, after, set_at}
 use Rattle.txn_trace.specs.Now.{now}
 use Rattle.txn_trace.specs.Log.{log_of}
 use Rattle.txn_words.specs.Kinds.{caller_of}
-use Rattle.txn_words.specs.Shape.{Seat, seat_after, own, closed_seat, changes, IsShaped}
+use Rattle.txn_words.specs.Shape.{Stance, stance_after, own, closed_stance, changes, IsShaped}
 use Rattle.txn_trace.specs.Legal.{IsLegal}
 use Rattle.txn_trace.specs.Locks.{is_locked}
 use Rattle.txn_words.proofs.Effects.{after_unchanged, changes-reply}
-use Rattle.txn_words.proofs.Levels.{Leveled, IsLevelIn, seat_leveled}
+use Rattle.txn_words.proofs.Levels.{Leveled, IsLevelIn, stance_leveled}
 use Rattle.txn_trace.proofs.EntrySteps.{Next}
 use Rattle.txn_trace.proofs.Entries as laws
 use Rattle.boost_core.proofs.Due.{set_at-after}
-use Rattle.boost_core.specs.State.{State, holder_by, seat_in}
+use Rattle.boost_core.specs.State.{State, holder_by, stance_in}
 use Rattle.boost_core.specs.Refusals.{has_job, has_stamp_for}
 use Rattle.boost_core.specs.Machine.{Move, Moves}
 use Rattle.boost_core.specs.Plain.{Operates, Returns, undoing, undone}
@@ -38,46 +38,46 @@ use Rattle.owned_map.proofs.Steps.{to_state, unmoved, phase_in, ready, based, re
 use Rattle.owned_map.proofs.Levels.{past, left_to_now, undone_to_now, reached_at}
 use Rattle.boost_core.proofs.SideRefusals.{first_none}
 
--- The map at a level, computed from the seat, the log and the present map.
-abbrev level_map : ℕ → Seat → List (ℕ × Option ℕ) → Map → Map
-level_map n seat log m = taken_back (take (seat.standing - slice_index seat.kept n) log) m
+-- The map at a level, computed from the stance, the log and the present map.
+abbrev level_map : ℕ → Stance → List (ℕ × Option ℕ) → Map → Map
+level_map n stance log m = taken_back (take (stance.standing - slice_index stance.kept n) log) m
 
 -- A caller's levels below this number have the same maps in two histories.
 abbrev SameLevels : ℕ → ℕ → List Entry → List Entry → Type 0
 SameLevels levels c g h = (n : ℕ) → n < levels → map_at c n h ≡ map_at c n g
 
--- The maps at a caller's levels and the number of these levels, computed from the seat in
+-- The maps at a caller's levels and the number of these levels, computed from the stance in
 -- `IsBasedOn`.
 module _ {rule : Holder} {limits : Sizes} {c : ℕ} {base : Map} {q : Phase} (h : List Entry)
     (stands : IsBasedOn rule limits c base q h) where
-  the_seat : seat_in h c ≡ stands.seat
-  the_seat = ap (λ (o : Option Seat). unwrap_or o closed_seat) stands.seat_is
+  the_stance : stance_in h c ≡ stands.stance
+  the_stance = ap (λ (o : Option Stance). unwrap_or o closed_stance) stands.stance_is
 
-  pub map_is : (n : ℕ) → map_at c n h ≡ level_map n stands.seat (log_of c h) (now h)
-  map_is n = ap (λ (s : Seat). level_map n s (log_of c h) (now h)) the_seat
+  pub map_is : (n : ℕ) → map_at c n h ≡ level_map n stands.stance (log_of c h) (now h)
+  map_is n = ap (λ (s : Stance). level_map n s (log_of c h) (now h)) the_stance
 
-  pub levels_are : level_count c h ≡ length stands.seat.kept
-  levels_are = ap (λ (s : Seat). length s.kept) the_seat
+  pub levels_are : level_count c h ≡ length stands.stance.kept
+  levels_are = ap (λ (s : Stance). length s.kept) the_stance
 
-  leveled : Leveled stands.seat
-  leveled = seat_leveled (own c h) stands.seat stands.seat_is
+  leveled : Leveled stands.stance
+  leveled = stance_leveled (own c h) stands.stance stands.stance_is
 
--- The caller's seat, log and levels after one more entry. The law of this entry determines them.
-module _ {rule : Holder} {stripes c : ℕ} (h : List Entry) (e : Entry) (mine : caller_of e ≡ c) {seat : Seat} {log : List (ℕ × Option ℕ)} {committed current : Map} {holder : ℕ → Option ℕ} (next : Next rule stripes h e seat log committed current holder) where
-  seat_next : seat_in (h ++ e ∷ []) c ≡ seat
-  seat_next = ap (λ (o : Option Seat). unwrap_or o closed_seat) (subst (λ d. seat_after (own d (h ++ e ∷ [])) ≡ Some seat) mine next.seat_is)
+-- The caller's stance, log and levels after one more entry. The law of this entry determines them.
+module _ {rule : Holder} {stripes c : ℕ} (h : List Entry) (e : Entry) (mine : caller_of e ≡ c) {stance : Stance} {log : List (ℕ × Option ℕ)} {committed current : Map} {holder : ℕ → Option ℕ} (next : Next rule stripes h e stance log committed current holder) where
+  stance_next : stance_in (h ++ e ∷ []) c ≡ stance
+  stance_next = ap (λ (o : Option Stance). unwrap_or o closed_stance) (subst (λ d. stance_after (own d (h ++ e ∷ [])) ≡ Some stance) mine next.stance_is)
 
   log_next : log_of c (h ++ e ∷ []) ≡ log
   log_next = subst (λ d. log_of d (h ++ e ∷ []) ≡ log) mine next.log_is
 
-  map_next : (n : ℕ) → map_at c n (h ++ e ∷ []) ≡ level_map n seat log current
+  map_next : (n : ℕ) → map_at c n (h ++ e ∷ []) ≡ level_map n stance log current
   map_next n =
-      ap (λ (s : Seat). level_map n s (log_of c (h ++ e ∷ [])) (now (h ++ e ∷ []))) seat_next
-      ∙ ap (λ l. level_map n seat l (now (h ++ e ∷ []))) log_next
-      ∙ ap (λ m. level_map n seat log m) next.now_is
+      ap (λ (s : Stance). level_map n s (log_of c (h ++ e ∷ [])) (now (h ++ e ∷ []))) stance_next
+      ∙ ap (λ l. level_map n stance l (now (h ++ e ∷ []))) log_next
+      ∙ ap (λ m. level_map n stance log m) next.now_is
 
-  levels_next : level_count c (h ++ e ∷ []) ≡ length seat.kept
-  levels_next = ap (λ (s : Seat). length s.kept) seat_next
+  levels_next : level_count c (h ++ e ∷ []) ≡ length stance.kept
+  levels_next = ap (λ (s : Stance). length s.kept) stance_next
 
 -- If an operation adds a change to the log, the map at each level stays the same.
 noted_level : (n : ℕ) (op : Op) (x : Option ℕ) (standing : ℕ) (kept : List ℕ) (log : List (ℕ × Option ℕ)) (m : Map) → get_or kept n 0 ≤ standing → x ≡ reply_of m op
@@ -109,85 +109,85 @@ undone_level standing kept log jobs job m more is =
 module _ {rule : Holder} (limits : Sizes) (c : ℕ) (base : Map) (h : List Entry) where
   asked_levels : (op : Op) → IsBasedOn rule limits c base Opened h → is_locked rule limits.stripes h (entry.Asked c op) ≡ true → (n : ℕ) → map_at c n (h ++ entry.Asked c op ∷ []) ≡ map_at c n h
   asked_levels op stands locked n =
-      map_next h (entry.Asked c op) refl (laws.asked limits.stripes h stands.legal c op stands.seat stands.seat_is stands.phase_is locked) n ∙ sym (map_is h stands n)
+      map_next h (entry.Asked c op) refl (laws.asked limits.stripes h stands.legal c op stands.stance stands.stance_is stands.phase_is locked) n ∙ sym (map_is h stands n)
 
   asked_number : (op : Op) → IsBasedOn rule limits c base Opened h → is_locked rule limits.stripes h (entry.Asked c op) ≡ true → level_count c (h ++ entry.Asked c op ∷ []) ≡ level_count c h
   asked_number op stands locked =
-      levels_next h (entry.Asked c op) refl (laws.asked limits.stripes h stands.legal c op stands.seat stands.seat_is stands.phase_is locked) ∙ sym (levels_are h stands)
+      levels_next h (entry.Asked c op) refl (laws.asked limits.stripes h stands.legal c op stands.stance stands.stance_is stands.phase_is locked) ∙ sym (levels_are h stands)
 
   busy_levels : (op : Op) (x : ℕ) → IsBasedOn rule limits c base Opened h → is_locked rule limits.stripes h (entry.Busy c op x) ≡ true
       → (level_count c (h ++ entry.Busy c op x ∷ []) ≡ level_count c h) × ((n : ℕ)
       → map_at c n (h ++ entry.Busy c op x ∷ []) ≡ map_at c n h)
   busy_levels op x stands locked =
-      let next = laws.busy limits.stripes h stands.legal c op x stands.seat stands.seat_is stands.phase_is locked in
+      let next = laws.busy limits.stripes h stands.legal c op x stands.stance stands.stance_is stands.phase_is locked in
       (levels_next h (entry.Busy c op x) refl next ∙ sym (levels_are h stands), λ n. map_next h (entry.Busy c op x) refl next n ∙ sym (map_is h stands n))
 
   did_levels : (op : Op) (x : Option ℕ) → IsBasedOn rule limits c base (Waiting op) h → x ≡ reply_of (now h) op
       → (level_count c (h ++ entry.Did c x ∷ []) ≡ level_count c h) × SameLevels (level_count c h) c h (h ++ entry.Did c x ∷ [])
   did_levels op x stands right =
-      let next = laws.did limits.stripes h stands.legal c op x stands.seat stands.seat_is stands.phase_is right in
-      let within : (n : ℕ) → n < length stands.seat.kept → get_or stands.seat.kept n 0 ≤ stands.seat.standing =
-      subst (λ q. IsLevelIn q stands.seat.standing stands.seat.kept) stands.phase_is (leveled h stands).within in (
+      let next = laws.did limits.stripes h stands.legal c op x stands.stance stands.stance_is stands.phase_is right in
+      let within : (n : ℕ) → n < length stands.stance.kept → get_or stands.stance.kept n 0 ≤ stands.stance.standing =
+      subst (λ q. IsLevelIn q stands.stance.standing stands.stance.kept) stands.phase_is (leveled h stands).within in (
         levels_next h (entry.Did c x) refl next ∙ sym (levels_are h stands),
         λ n less.
             map_next h (entry.Did c x) refl next n
-            ∙ noted_level n op x stands.seat.standing stands.seat.kept (log_of c h) (now h) (within n (subst (λ k. n < k) (levels_are h stands) less)) right
+            ∙ noted_level n op x stands.stance.standing stands.stance.kept (log_of c h) (now h) (within n (subst (λ k. n < k) (levels_are h stands) less)) right
             ∙ sym (map_is h stands n),
       )
 
   saved_levels : (stands : IsBasedOn rule limits c base Opened h)
       → (level_count c (h ++ entry.Saved c ∷ []) ≡ level_count c h + 1) × (map_at c (level_count c h) (h ++ entry.Saved c ∷ []) ≡ now h) × SameLevels (level_count c h) c h (h ++ entry.Saved c ∷ [])
   saved_levels stands =
-      let next = laws.saved limits.stripes h stands.legal c stands.seat stands.seat_is stands.phase_is in
-      let kept : List ℕ = stands.seat.kept in
-      let here : get_or (kept ++ stands.seat.standing ∷ []) (length kept) 0 ≡ stands.seat.standing = get_or_push kept stands.seat.standing 0 (length kept) refl in
-      let none : stands.seat.standing - get_or (kept ++ stands.seat.standing ∷ []) (length kept) 0 ≡ 0 = omega (arith, here) in (
-        levels_next h (entry.Saved c) refl next ∙ length_push kept stands.seat.standing ∙ sym (ap (λ k. k + 1) (levels_are h stands)),
+      let next = laws.saved limits.stripes h stands.legal c stands.stance stands.stance_is stands.phase_is in
+      let kept : List ℕ = stands.stance.kept in
+      let here : get_or (kept ++ stands.stance.standing ∷ []) (length kept) 0 ≡ stands.stance.standing = get_or_push kept stands.stance.standing 0 (length kept) refl in
+      let none : stands.stance.standing - get_or (kept ++ stands.stance.standing ∷ []) (length kept) 0 ≡ 0 = omega (arith, here) in (
+        levels_next h (entry.Saved c) refl next ∙ length_push kept stands.stance.standing ∙ sym (ap (λ k. k + 1) (levels_are h stands)),
         ap (λ k. map_at c k (h ++ entry.Saved c ∷ [])) (levels_are h stands)
             ∙ map_next h (entry.Saved c) refl next (length kept)
             ∙ ap (λ k. taken_back (take k (log_of c h)) (now h)) none,
         λ n less.
             map_next h (entry.Saved c) refl next n
-            ∙ ap (λ k. taken_back (take (stands.seat.standing - k) (log_of c h)) (now h)) (get_or_append_left kept (stands.seat.standing ∷ []) 0 n (subst (λ k. n < k) (levels_are h stands) less))
+            ∙ ap (λ k. taken_back (take (stands.stance.standing - k) (log_of c h)) (now h)) (get_or_append_left kept (stands.stance.standing ∷ []) 0 n (subst (λ k. n < k) (levels_are h stands) less))
             ∙ sym (map_is h stands n),
       )
 
-  left_levels : (m : ℕ) (stands : IsBasedOn rule limits c base Opened h) → m < length stands.seat.kept
+  left_levels : (m : ℕ) (stands : IsBasedOn rule limits c base Opened h) → m < length stands.stance.kept
       → (level_count c (h ++ entry.Leave c (Some m) ∷ []) ≡ level_count c h) × ((n : ℕ) → map_at c n (h ++ entry.Leave c (Some m) ∷ []) ≡ map_at c n h)
   left_levels m stands within =
-      let next = laws.left_to limits.stripes h stands.legal c m stands.seat stands.seat_is stands.phase_is within in
+      let next = laws.left_to limits.stripes h stands.legal c m stands.stance stands.stance_is stands.phase_is within in
       (levels_next h (entry.Leave c (Some m)) refl next ∙ sym (levels_are h stands), λ n. map_next h (entry.Leave c (Some m)) refl next n ∙ sym (map_is h stands n))
 
-  undone_levels : (m : ℕ) (stands : IsBasedOn rule limits c base (LeavingTo m) h) → slice_index stands.seat.kept m < stands.seat.standing
+  undone_levels : (m : ℕ) (stands : IsBasedOn rule limits c base (LeavingTo m) h) → slice_index stands.stance.kept m < stands.stance.standing
       → (level_count c (h ++ entry.Undone c ∷ []) ≡ level_count c h) × SameLevels (m + 1) c h (h ++ entry.Undone c ∷ [])
   undone_levels m stands more =
-      let above : get_or stands.seat.kept m 0 < stands.seat.standing = more in
-      let some : 0 < stands.seat.standing = omega (arith, above) in
-      let newest = laws.newest h c stands.seat stands.seat_is some in
-      let next = laws.undone_to limits.stripes h stands.legal c m stands.seat stands.seat_is stands.phase_is more newest.0 newest.1 newest.2 in
-      let there : m < length stands.seat.kept = (subst (λ q. IsLevelIn q stands.seat.standing stands.seat.kept) stands.phase_is (leveled h stands).within).0 in
-      let fewer : (n : ℕ) → n < m + 1 → get_or stands.seat.kept n 0 < stands.seat.standing =
-      λ n less. (let low : get_or stands.seat.kept n 0 ≤ get_or stands.seat.kept m 0 = (leveled h stands).rising n m (omega (arith, less)) there in omega (arith, low, above)) in (
+      let above : get_or stands.stance.kept m 0 < stands.stance.standing = more in
+      let some : 0 < stands.stance.standing = omega (arith, above) in
+      let newest = laws.newest h c stands.stance stands.stance_is some in
+      let next = laws.undone_to limits.stripes h stands.legal c m stands.stance stands.stance_is stands.phase_is more newest.0 newest.1 newest.2 in
+      let there : m < length stands.stance.kept = (subst (λ q. IsLevelIn q stands.stance.standing stands.stance.kept) stands.phase_is (leveled h stands).within).0 in
+      let fewer : (n : ℕ) → n < m + 1 → get_or stands.stance.kept n 0 < stands.stance.standing =
+      λ n less. (let low : get_or stands.stance.kept n 0 ≤ get_or stands.stance.kept m 0 = (leveled h stands).rising n m (omega (arith, less)) there in omega (arith, low, above)) in (
         levels_next h (entry.Undone c) refl next ∙ sym (levels_are h stands),
         λ n less.
             map_next h (entry.Undone c) refl next n
-            ∙ undone_level stands.seat.standing (get_or stands.seat.kept n 0) (log_of c h) newest.1 newest.0 (now h) (fewer n less) newest.2
+            ∙ undone_level stands.stance.standing (get_or stands.stance.kept n 0) (log_of c h) newest.1 newest.0 (now h) (fewer n less) newest.2
             ∙ sym (map_is h stands n),
       )
 
-  returned_levels : (m : ℕ) (stands : IsBasedOn rule limits c base (LeavingTo m) h) → slice_index stands.seat.kept m ≡ stands.seat.standing
+  returned_levels : (m : ℕ) (stands : IsBasedOn rule limits c base (LeavingTo m) h) → slice_index stands.stance.kept m ≡ stands.stance.standing
       → (now (h ++ entry.Returned c m ∷ []) ≡ map_at c m h) × (level_count c (h ++ entry.Returned c m ∷ []) ≡ m + 1) × SameLevels (m + 1) c h (h ++ entry.Returned c m ∷ [])
   returned_levels m stands reached =
-      let next = laws.returned limits.stripes h stands.legal c m stands.seat stands.seat_is stands.phase_is reached in
-      let there : m < length stands.seat.kept = (subst (λ q. IsLevelIn q stands.seat.standing stands.seat.kept) stands.phase_is (leveled h stands).within).0 in
-      let here : get_or stands.seat.kept m 0 ≡ stands.seat.standing = reached in
-      let none : stands.seat.standing - get_or stands.seat.kept m 0 ≡ 0 = omega (arith, here) in
-      let fits : m + 1 ≤ length stands.seat.kept = omega (arith, there) in (
+      let next = laws.returned limits.stripes h stands.legal c m stands.stance stands.stance_is stands.phase_is reached in
+      let there : m < length stands.stance.kept = (subst (λ q. IsLevelIn q stands.stance.standing stands.stance.kept) stands.phase_is (leveled h stands).within).0 in
+      let here : get_or stands.stance.kept m 0 ≡ stands.stance.standing = reached in
+      let none : stands.stance.standing - get_or stands.stance.kept m 0 ≡ 0 = omega (arith, here) in
+      let fits : m + 1 ≤ length stands.stance.kept = omega (arith, there) in (
         next.now_is ∙ sym (map_is h stands m ∙ ap (λ k. taken_back (take k (log_of c h)) (now h)) none),
-        levels_next h (entry.Returned c m) refl next ∙ length-take-le (m + 1) stands.seat.kept fits,
+        levels_next h (entry.Returned c m) refl next ∙ length-take-le (m + 1) stands.stance.kept fits,
         λ n less.
             map_next h (entry.Returned c m) refl next n
-            ∙ ap (λ k. taken_back (take (stands.seat.standing - k) (log_of c h)) (now h)) (get_or-take (m + 1) stands.seat.kept n 0 less)
+            ∙ ap (λ k. taken_back (take (stands.stance.standing - k) (log_of c h)) (now h)) (get_or-take (m + 1) stands.stance.kept n 0 less)
             ∙ sym (map_is h stands n),
       )
 
@@ -257,9 +257,9 @@ record IsOnWay (c n : ℕ) (base : Map) (old new : State) : Type 0 where
 one_back : (start old between new : State) (c : ℕ) (base : Map) (n : ℕ) → IsOnWay c n base start old → Move old (Seek c) answers.Placed between → Move between (Act c) answers.Undone new → IsOnWay c n base start new
 one_back start old between new c base n way seek act =
     let sought = to_state c base (LeavingTo n) _ between seek.state (unmoved c base (LeavingTo n) old way.stands) in
-    let job : has_job sought.seat ≡ true = subst (λ (seat : Seat). has_job seat ≡ true) (phase_in c base (LeavingTo n) between sought) act.allowed.1 in
-    let more : nat_lt (slice_index sought.seat.kept n) sought.seat.standing ≡ true = subst (λ q. has_job (record (sought.seat) { phase = q }) ≡ true) sought.phase_is job in
-    let is_more = ltb-true (slice_index sought.seat.kept n) sought.seat.standing more in
+    let job : has_job sought.stance ≡ true = subst (λ (stance : Stance). has_job stance ≡ true) (phase_in c base (LeavingTo n) between sought) act.allowed.1 in
+    let more : nat_lt (slice_index sought.stance.kept n) sought.stance.standing ≡ true = subst (λ q. has_job (record (sought.stance) { phase = q }) ≡ true) sought.phase_is job in
+    let is_more = ltb-true (slice_index sought.stance.kept n) sought.stance.standing more in
     record {
       stands = to_state c base (LeavingTo n) _ new act.state (undone_to_now between.limits c base between.history n sought is_more);
       maps = λ k less.
@@ -282,13 +282,13 @@ is_back old new c n m legal shaped (same, left, leave, (changes, moves)) =
     let stands = ready old c _ legal leave.move.allowed.0 in
     let level = first_none (nat_le (level_count c old.history) n) refusals.NoSuchLevel None
     (past old c (cond (nat_le (level_count c old.history) n) (Some refusals.NoSuchLevel) None) leave.move.allowed.0) in
-    let within : n < length stands.seat.kept = leb-false (length stands.seat.kept) n (subst (λ (seat : Seat). nat_le (length seat.kept) n ≡ false) (phase_in c base Opened old stands) level.0) in
+    let within : n < length stands.stance.kept = leb-false (length stands.stance.kept) n (subst (λ (stance : Stance). nat_le (length stance.kept) n ≡ false) (phase_in c base Opened old stands) level.0) in
     let gone = to_state c base (LeavingTo n) _ left leave.move.state (left_to_now old.limits c base old.history n stands within) in
     let lefts = left_levels old.limits c base old.history n stands within in
     let way : IsOnWay c n base old left = record { stands = gone; maps = λ k less. ap (λ (s : State). map_at c k s.history) leave.move.state ∙ lefts.1 k } in
     let (between, there, (s1, act, last)) = backwards old left new c base n changes (Act c ∷ []) (answers.Returned m ∷ []) way moves in
     let whole : IsShaped (between.history ++ entry.Returned c m ∷ []) = subst IsShaped (ap history_of last ∙ ap history_of act.move.state) shaped in
-    let at = reached_at c n m between.history there.stands.seat there.stands.seat_is there.stands.phase_is whole in
+    let at = reached_at c n m between.history there.stands.stance there.stands.stance_is there.stands.phase_is whole in
     let backs = returned_levels between.limits c base between.history n there.stands at.1 in
     let ends : new.history ≡ between.history ++ entry.Returned c n ∷ [] =
     ap history_of last ∙ ap history_of act.move.state ∙ ap (λ k. between.history ++ entry.Returned c k ∷ []) (sym at.0) in

@@ -12,21 +12,21 @@ use Rattle.txn_words.specs.declared.step.Step.{Step}
 use Rattle.txn_words.specs.declared.step.Step.TheVariants.{Begin, Ask, Seek, Act, Commit, Abort}
 use Rattle.txn_words.specs.declared.answer.Answer.{Answer}
 use Rattle.txn_words.specs.declared.answer.Answer.TheVariants as answers
-use Rattle.txn_words.specs.declared.seat.Phase.{Phase}
-use Rattle.txn_words.specs.declared.seat.Phase.TheVariants.{Closed, Opened, Waiting, LeavingTo, LeavingToEnd}
+use Rattle.txn_words.specs.declared.stance.Phase.{Phase}
+use Rattle.txn_words.specs.declared.stance.Phase.TheVariants.{Closed, Opened, Waiting, LeavingTo, LeavingToEnd}
 use Rattle.txn_words.specs.Map.{Map, reply_of}
 use Rattle.txn_words.specs.Map as map
 use Rattle.txn_trace.specs.Log.{log_of}
 use Rattle.txn_trace.specs.Now.{now}
-use Rattle.txn_words.specs.Shape.{Seat, closed_seat, seat_after, own}
+use Rattle.txn_words.specs.Shape.{Stance, closed_stance, stance_after, own}
 use Rattle.txn_trace.specs.Legal.{IsLegal}
-use Rattle.boost_core.specs.State.{State, holder_by, seat_in}
+use Rattle.boost_core.specs.State.{State, holder_by, stance_in}
 use Rattle.boost_core.specs.Refusals.{refusal_of, is_closed, is_leaving, is_waiting, has_job, has_stamp_for}
 use Rattle.boost_core.specs.Answers.{IsReply, is_at_end}
 use Rattle.boost_core.specs.Machine.{Move, Happens, Moves}
 use Rattle.boost_core.specs.Plain.{Operates, Aborts, Ends, Leaves, undoing, undone}
 use Rattle.owned_map.specs.Within.{taken_back, IsBasedOn, IsAt, CanAbort, IsIdle, GoesOn, HasDone, IsTakenBack, IsCommitted}
-use Rattle.owned_map.proofs.Histories.{seat_there, began_now, asked_now, busy_now, did_now, left_now, undone_now, aborted_now, committed_now}
+use Rattle.owned_map.proofs.Histories.{stance_there, began_now, asked_now, busy_now, did_now, left_now, undone_now, aborted_now, committed_now}
 use Rattle.owned_map.proofs.Only as only
 use Rattle.boost_core.proofs.SideRefusals.{closed_is, first_none}
 
@@ -42,19 +42,19 @@ pub unmoved : (c : ℕ) (base : Map) (q : Phase) (s : State) → IsAt c base q s
     → IsBasedOn (holder_by s.words) s.limits c base q (s.history ++ [])
 unmoved c base q s stands = subst (IsBasedOn (holder_by s.words) s.limits c base q) (sym (append-nil s.history)) stands
 
--- If `IsAt` holds for a caller and a state, `seat_in` gives the caller's seat that `IsAt` names.
-pub phase_in : (c : ℕ) (base : Map) (q : Phase) (s : State) → (stands : IsAt c base q s) → seat_in s.history c ≡ stands.seat
-phase_in c base q s stands = ap (λ (o : Option Seat). unwrap_or o closed_seat) stands.seat_is
+-- If `IsAt` holds for a caller and a state, `stance_in` gives the caller's stance that `IsAt` names.
+pub phase_in : (c : ℕ) (base : Map) (q : Phase) (s : State) → (stands : IsAt c base q s) → stance_in s.history c ≡ stands.stance
+phase_in c base q s stands = ap (λ (o : Option Stance). unwrap_or o closed_stance) stands.stance_is
 
-phase_of : {A : Type 0} (s : State) (c : ℕ) (base : Map) (q : Phase) → IsAt c base q s → (f : Phase → A) → f (seat_in s.history c).phase ≡ f q
-phase_of s c base q stands f = ap (λ (seat : Seat). f seat.phase) (phase_in c base q s stands) ∙ ap f stands.phase_is
+phase_of : {A : Type 0} (s : State) (c : ℕ) (base : Map) (q : Phase) → IsAt c base q s → (f : Phase → A) → f (stance_in s.history c).phase ≡ f q
+phase_of s c base q stands f = ap (λ (stance : Stance). f stance.phase) (phase_in c base q s stands) ∙ ap f stands.phase_is
 
 not_not : (b : Bool) → not b ≡ false → b ≡ true
 not_not true is = refl
 not_not false is = absurd (false≢true (sym is))
 
-idle_after : (c : ℕ) (s t : State) → t ≡ s → seat_after (own c s.history) ≡ Some closed_seat → IsIdle c t
-idle_after c s t is closed = subst (IsIdle c) (sym is) (ap (λ (o : Option Seat). is_closed (unwrap_or o closed_seat).phase) closed)
+idle_after : (c : ℕ) (s t : State) → t ≡ s → stance_after (own c s.history) ≡ Some closed_stance → IsIdle c t
+idle_after c s t is closed = subst (IsIdle c) (sym is) (ap (λ (o : Option Stance). is_closed (unwrap_or o closed_stance).phase) closed)
 
 -- After the step `Begin`, the caller has an open transaction on the present map, and the map is
 -- unchanged.
@@ -64,10 +64,10 @@ begins old new c t legal move =
     let tests = first_none (nat_le old.limits.callers c) _ _ move.allowed.0 in
     let more = first_none _ _ _ tests.1 in
     let closed = not_not _ (first_none _ _ _ more.1).0 in
-    let seat = seat_there c old.history legal.shape in
-    let phase : seat.0.phase ≡ Closed =
-    closed_is _ (subst (λ (o : Option Seat). is_closed (unwrap_or o closed_seat).phase ≡ true) seat.1 closed) in
-    let stands = began_now old.limits c t old.history tests.0 legal seat.0 seat.1 phase move.allowed.1 in
+    let stance = stance_there c old.history legal.shape in
+    let phase : stance.0.phase ≡ Closed =
+    closed_is _ (subst (λ (o : Option Stance). is_closed (unwrap_or o closed_stance).phase ≡ true) stance.1 closed) in
+    let stands = began_now old.limits c t old.history tests.0 legal stance.0 stance.1 phase move.allowed.1 in
     (to_state c (now old.history) Opened _ new move.state stands.0, ap now_of move.state ∙ stands.1)
 
 pub no_other_begin : (old new : State) (c : ℕ) (answer : Answer) → ((t : ℕ) → answer ≡ answers.Began t → ⊥) → ((refusal : Refusal) → answer ≡ answers.Refused refusal → ⊥) → Move old (Begin c) answer new → ⊥
@@ -92,9 +92,9 @@ waits old between next c base op stands ask seek =
     }
 
 -- If a waiting operation gets a reply, this is the reply that the operation has on the present map.
-pub replied : (s : State) (c : ℕ) (base : Map) (op : Op) (x : Option ℕ) → IsAt c base (Waiting op) s → IsReply (seat_in s.history c).phase (now s.history) x → x ≡ reply_of (now s.history) op
+pub replied : (s : State) (c : ℕ) (base : Map) (op : Op) (x : Option ℕ) → IsAt c base (Waiting op) s → IsReply (stance_in s.history c).phase (now s.history) x → x ≡ reply_of (now s.history) op
 replied s c base op x stands reply =
-    subst (λ q. IsReply q (now s.history) x) (ap (λ (seat : Seat). seat.phase) (phase_in c base (Waiting op) s stands) ∙ stands.phase_is) reply
+    subst (λ q. IsReply q (now s.history) x) (ap (λ (stance : Stance). stance.phase) (phase_in c base (Waiting op) s stands) ∙ stands.phase_is) reply
 
 -- If an operation is done, `HasDone` holds for it, and the transaction is still open.
 pub does : (old new : State) (c : ℕ) (base : Map) (op : Op) (x : Option ℕ) → IsAt c base Opened old → Operates old c op (answers.Done x) new
@@ -121,9 +121,9 @@ open_phase LeavingToEnd a b c = absurd (false≢true (sym b))
 abbrev pub unready : State → ℕ → Option Refusal → Option Refusal
 unready s c rest =
     cond (nat_le s.limits.callers c) (Some refusals.NoSuchCaller)
-    (cond (is_closed (seat_in s.history c).phase) (Some refusals.NotOpen)
-    (cond (is_leaving (seat_in s.history c).phase) (Some refusals.Leaving)
-    (cond (is_waiting (seat_in s.history c).phase) (Some refusals.OperationUnfinished) rest)))
+    (cond (is_closed (stance_in s.history c).phase) (Some refusals.NotOpen)
+    (cond (is_leaving (stance_in s.history c).phase) (Some refusals.Leaving)
+    (cond (is_waiting (stance_in s.history c).phase) (Some refusals.OperationUnfinished) rest)))
 
 abbrev pub based : ℕ → State → Map
 based c s = taken_back (log_of c s.history) (now s.history)
@@ -134,14 +134,14 @@ ready s c rest legal free =
     let closed = first_none _ _ _ within.1 in
     let leaving = first_none _ _ _ closed.1 in
     let waiting = first_none _ _ _ leaving.1 in
-    let seat = seat_there c s.history legal.shape in
-    let phase : (seat_in s.history c).phase ≡ Opened = open_phase _ closed.0 leaving.0 waiting.0 in
+    let stance = stance_there c s.history legal.shape in
+    let phase : (stance_in s.history c).phase ≡ Opened = open_phase _ closed.0 leaving.0 waiting.0 in
     record {
       within = within.0;
       legal = legal;
-      seat = seat.0;
-      seat_is = seat.1;
-      phase_is = sym (ap (λ (o : Option Seat). (unwrap_or o closed_seat).phase) seat.1) ∙ phase;
+      stance = stance.0;
+      stance_is = stance.1;
+      phase_is = sym (ap (λ (o : Option Stance). (unwrap_or o closed_stance).phase) stance.1) ∙ phase;
       back = refl;
     }
 
@@ -219,9 +219,9 @@ no_other_commit old new c _ not_committed not_refused move = absurd move.allowed
 one_back : (old between new : State) (c : ℕ) (base : Map) → IsAt c base LeavingToEnd old → Move old (Seek c) answers.Placed between → Move between (Act c) answers.Undone new → IsAt c base LeavingToEnd new
 one_back old between new c base stands seek act =
     let sought = to_state c base LeavingToEnd _ between seek.state (unmoved c base LeavingToEnd old stands) in
-    let job : has_job sought.seat ≡ true = subst (λ (seat : Seat). has_job seat ≡ true) (phase_in c base LeavingToEnd between sought) act.allowed.1 in
-    let some : nat_lt 0 sought.seat.standing ≡ true = subst (λ q. has_job (record (sought.seat) { phase = q }) ≡ true) sought.phase_is job in
-    to_state c base LeavingToEnd _ new act.state (undone_now between.limits c base between.history sought (ltb-true 0 sought.seat.standing some))
+    let job : has_job sought.stance ≡ true = subst (λ (stance : Stance). has_job stance ≡ true) (phase_in c base LeavingToEnd between sought) act.allowed.1 in
+    let some : nat_lt 0 sought.stance.standing ≡ true = subst (λ q. has_job (record (sought.stance) { phase = q }) ≡ true) sought.phase_is job in
+    to_state c base LeavingToEnd _ new act.state (undone_now between.limits c base between.history sought (ltb-true 0 sought.stance.standing some))
 
 -- The first moves of `undoing` take back `changes` changes. After these moves the caller is still
 -- aborting its transaction, and the moves of `steps` remain.
@@ -235,10 +235,10 @@ backwards old new c base (suc changes) steps others stands moves =
 ends : (old new : State) (c : ℕ) (base : Map) → IsAt c base LeavingToEnd old → Ends old c answers.Aborted new → (now new.history ≡ base) × IsIdle c new
 ends old new c base stands (changes, moves) =
     let (between, there, (s1, act, last)) = backwards old new c base changes (Act c ∷ []) (answers.Aborted ∷ []) stands moves in
-    let free = (and_parts (not (has_job (seat_in between.history c))) _ act.move.allowed.1).0 in
-    let rests : not (has_job there.seat) ≡ true = subst (λ (seat : Seat). not (has_job seat) ≡ true) (phase_in c base LeavingToEnd between there) free in
-    let none : not (nat_lt 0 there.seat.standing) ≡ true = subst (λ q. not (has_job (record (there.seat) { phase = q })) ≡ true) there.phase_is rests in
-    let over = aborted_now between.limits c base between.history there (no_more there.seat.standing none) in
+    let free = (and_parts (not (has_job (stance_in between.history c))) _ act.move.allowed.1).0 in
+    let rests : not (has_job there.stance) ≡ true = subst (λ (stance : Stance). not (has_job stance) ≡ true) (phase_in c base LeavingToEnd between there) free in
+    let none : not (nat_lt 0 there.stance.standing) ≡ true = subst (λ q. not (has_job (record (there.stance) { phase = q })) ≡ true) there.phase_is rests in
+    let over = aborted_now between.limits c base between.history there (no_more there.stance.standing none) in
     (ap now_of last ∙ ap now_of act.move.state ∙ over.0, idle_after c _ new (last ∙ act.move.state) over.1)
   where
     no_more : (n : ℕ) → not (nat_lt 0 n) ≡ true → n ≡ 0

@@ -19,19 +19,19 @@ use Rattle.txn_words.specs.declared.step.Step.TheVariants.{Begin, Commit}
 use Rattle.txn_words.specs.declared.answer.Answer.TheVariants as answers
 use Rattle.txn_words.specs.declared.entry.Entry.{Entry}
 use Rattle.txn_words.specs.declared.entry.Entry.TheVariants.{Began, Asked, Did, Committed}
-use Rattle.txn_words.specs.declared.seat.Phase.{Phase}
-use Rattle.txn_words.specs.declared.seat.Phase.TheVariants.{Closed, Opened, Waiting, LeavingTo, LeavingToEnd}
+use Rattle.txn_words.specs.declared.stance.Phase.{Phase}
+use Rattle.txn_words.specs.declared.stance.Phase.TheVariants.{Closed, Opened, Waiting, LeavingTo, LeavingToEnd}
 use Rattle.txn_words.specs.Kinds.{is_began, is_commit}
 use Rattle.txn_words.specs.Map.{Map, count_of, get, insert}
 use Rattle.txn_trace.specs.Now.{now}
 use Rattle.txn_trace.specs.Legal.{IsLegal}
 use Rattle.txn_words.specs.Ordered.{split_cmp, ordered}
 use Rattle.txn_words.specs.Owed.{owed, owed_by, owed_in}
-use Rattle.txn_words.specs.Seats.{is_closed}
-use Rattle.txn_words.specs.Shape.{Seat, closed_seat, seat_after, own, how_many}
+use Rattle.txn_words.specs.Stances.{is_closed}
+use Rattle.txn_words.specs.Shape.{Stance, closed_stance, stance_after, own, how_many}
 use Rattle.txn_words.proofs.Maps.{same_map, get-insert}
 use Rattle.txn_words.proofs.Order.{split_cmp_total, split_cmp_tied, value_at, IsSortedBySplit, sorted-ordered, value_at-ordered, pair_parts}
-use Rattle.boost_core.specs.State.{State, holder_by, seat_in}
+use Rattle.boost_core.specs.State.{State, holder_by, stance_in}
 use Rattle.boost_core.specs.Machine.{Move}
 use Rattle.boost_core.specs.Plain.{Operates}
 use Rattle.owned_map.specs.Trimmed.{put_new, filling, IsAtRest, IsNotTrimmed, LacksFor}
@@ -169,11 +169,11 @@ open_in n (Waiting op) owes = refl
 open_in n (LeavingTo m) owes = refl
 open_in n LeavingToEnd owes = refl
 
-closed_by : (o : Option Seat) → owed_by o ≡ 0 → is_closed (unwrap_or o closed_seat).phase ≡ true
+closed_by : (o : Option Stance) → owed_by o ≡ 0 → is_closed (unwrap_or o closed_stance).phase ≡ true
 closed_by None is = refl
 closed_by (Some s) is = closed_in s.standing s.phase is
 
-open_by : (o : Option Seat) → owed_by o ≢ 0 → is_closed (unwrap_or o closed_seat).phase ≡ false
+open_by : (o : Option Stance) → owed_by o ≢ 0 → is_closed (unwrap_or o closed_stance).phase ≡ false
 open_by None owes = absurd (owes refl)
 open_by (Some s) owes = open_in s.standing s.phase owes
 
@@ -202,12 +202,12 @@ some_owes f (suc n) a owes = elim (cases_eq (f a) 0) [
     both_none none rest = omega (arith, none, rest)
 
 pub at_rest : (s : State) → owed s.limits.callers s.history ≡ 0 → IsAtRest s
-at_rest s none c within = closed_by (seat_after (own c s.history)) (each_zero (λ d. owed_by (seat_after (own d s.history))) s.limits.callers 0 c none (omega arith) (omega (arith, within)))
+at_rest s none c within = closed_by (stance_after (own c s.history)) (each_zero (λ d. owed_by (stance_after (own d s.history))) s.limits.callers 0 c none (omega arith) (omega (arith, within)))
 
-pub some_open : (s : State) → owed s.limits.callers s.history ≢ 0 → (c : ℕ) × (c < s.limits.callers) × (is_closed (seat_in s.history c).phase ≡ false)
+pub some_open : (s : State) → owed s.limits.callers s.history ≢ 0 → (c : ℕ) × (c < s.limits.callers) × (is_closed (stance_in s.history c).phase ≡ false)
 some_open s owes =
-    let (c, within, some) = some_owes (λ d. owed_by (seat_after (own d s.history))) s.limits.callers 0 owes in
-    (c, omega (arith, within), open_by (seat_after (own c s.history)) some)
+    let (c, within, some) = some_owes (λ d. owed_by (stance_after (own d s.history))) s.limits.callers 0 owes in
+    (c, omega (arith, within), open_by (stance_after (own c s.history)) some)
 
 -- If no caller has a transaction, and the new map cannot take the pairs, `IsNotTrimmed` holds.
 not_trimmed : (s : State) (refusal : Refusal) → owed s.limits.callers s.history ≡ 0 → LacksFor (count_of (now s.history)) refusal → IsNotTrimmed s refusal

@@ -10,10 +10,10 @@ use Rattle.txn_words.specs.declared.refusal.Refusal.TheVariants.{AlreadyOpen, No
 use Rattle.txn_words.specs.Map.{count_of}
 use Rattle.txn_trace.specs.Now.{now}
 use Rattle.txn_words.specs.Ordered.{ordered}
-use Rattle.txn_words.specs.declared.seat.Phase.TheVariants.{Opened}
-use Rattle.txn_words.specs.Seats.{is_closed}
+use Rattle.txn_words.specs.declared.stance.Phase.TheVariants.{Opened}
+use Rattle.txn_words.specs.Stances.{is_closed}
 use Rattle.txn_words.specs.Shape.{own}
-use Rattle.boost_core.specs.State.{State, seat_in}
+use Rattle.boost_core.specs.State.{State, stance_in}
 use Rattle.owned_map.specs.Within.{IsIdle}
 
 -- The entries by which caller 0 puts a pair whose key is absent.
@@ -28,7 +28,7 @@ filling pairs = (Began 0 1 ∷ flat_map put_new pairs) ++ Committed 0 1 ∷ []
 -- Caller 0 exists and has a transaction, and no other caller has done anything.
 pub record IsFilling (state : State) : Type 0 where
   pub there : 0 < state.limits.callers
-  pub opened : (seat_in state.history 0).phase ≡ Opened
+  pub opened : (stance_in state.history 0).phase ≡ Opened
   pub alone : (d : ℕ) → d ≢ 0 → own d state.history ≡ []
 
 -- No caller has a transaction.
@@ -54,5 +54,5 @@ LacksFor pairs refusal = ⊥
 -- and the new map cannot take the pairs.
 abbrev pub IsNotTrimmed : State → Refusal → Type 0
 IsNotTrimmed state AlreadyOpen =
-    (c : ℕ) × (c < state.limits.callers) × (is_closed (seat_in state.history c).phase ≡ false)
+    (c : ℕ) × (c < state.limits.callers) × (is_closed (stance_in state.history c).phase ≡ false)
 IsNotTrimmed state refusal = IsAtRest state × LacksFor (count_of (now state.history)) refusal

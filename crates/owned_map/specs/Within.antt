@@ -9,17 +9,17 @@ use Rattle.txn_words.specs.declared.step.Step.TheVariants.{InitSeek, InitLink, I
 use Rattle.txn_words.specs.declared.holder.Holder.{Holder}
 use Rattle.txn_words.specs.declared.entry.Entry.{Entry}
 use Rattle.txn_words.specs.declared.entry.Entry.TheVariants.{Committed}
-use Rattle.txn_words.specs.declared.seat.Phase.{Phase}
-use Rattle.txn_words.specs.declared.seat.Phase.TheVariants.{Opened, LeavingToEnd}
+use Rattle.txn_words.specs.declared.stance.Phase.{Phase}
+use Rattle.txn_words.specs.declared.stance.Phase.TheVariants.{Opened, LeavingToEnd}
 use Rattle.txn_words.specs.Kinds.{is_commit}
 use Rattle.txn_words.specs.Sizes.{Sizes}
 use Rattle.txn_words.specs.Map.{Map, count_of, reply_of, after, set_at}
 use Rattle.txn_trace.specs.Now.{now}
 use Rattle.txn_trace.specs.Log.{log_of}
-use Rattle.txn_words.specs.Seats.{is_closed}
-use Rattle.txn_words.specs.Shape.{Seat, seat_after, own}
+use Rattle.txn_words.specs.Stances.{is_closed}
+use Rattle.txn_words.specs.Shape.{Stance, stance_after, own}
 use Rattle.txn_trace.specs.Legal.{IsLegal}
-use Rattle.boost_core.specs.State.{State, holder_by, seat_in}
+use Rattle.boost_core.specs.State.{State, holder_by, stance_in}
 use Rattle.boost_core.specs.Machine.{Moves}
 
 -- The map after these changes are taken back, in the order of the list. Each change is given by its
@@ -33,9 +33,9 @@ pub record IsBasedOn (rule : Holder) (limits : Sizes) (c : ℕ) (base : Map) (ph
     (h : List Entry) : Type 0 where
   pub within : nat_le limits.callers c ≡ false
   pub legal : IsLegal rule limits.stripes h
-  pub seat : Seat
-  pub seat_is : seat_after (own c h) ≡ Some seat
-  pub phase_is : seat.phase ≡ phase
+  pub stance : Stance
+  pub stance_is : stance_after (own c h) ≡ Some stance
+  pub phase_is : stance.phase ≡ phase
   pub back : taken_back (log_of c h) (now h) ≡ base
 
 abbrev pub IsAt : ℕ → Map → Phase → State → Type 0
@@ -52,12 +52,12 @@ CanAbort c base state = IsAt c base Opened state ⊎ IsAt c base LeavingToEnd st
 -- savepoint's number.
 abbrev pub map_at : ℕ → ℕ → List Entry → Map
 map_at c level h =
-    taken_back (take ((seat_in h c).standing - slice_index (seat_in h c).kept level) (log_of c h))
+    taken_back (take ((stance_in h c).standing - slice_index (stance_in h c).kept level) (log_of c h))
     (now h)
 
 -- The number of levels of a caller.
 abbrev pub level_count : ℕ → List Entry → ℕ
-level_count c h = length (seat_in h c).kept
+level_count c h = length (stance_in h c).kept
 
 -- A caller's levels below this number have the same maps as before.
 abbrev pub KeepsLevels : ℕ → ℕ → State → State → Type 0
@@ -86,7 +86,7 @@ pub record IsBackAt (c level : ℕ) (old new : State) : Type 0 where
 
 -- A caller has no transaction.
 abbrev pub IsIdle : ℕ → State → Type 0
-IsIdle c state = is_closed (seat_in state.history c).phase ≡ true
+IsIdle c state = is_closed (stance_in state.history c).phase ≡ true
 
 -- Only this caller did anything: the entries of every other caller are unchanged.
 abbrev pub OnlyDid : ℕ → State → State → Type 0

@@ -1,5 +1,5 @@
 //! These tests run the program on a system in memory, with threads and without. They compare both
-//! outputs and the status of each call. All texts were written by hand. By contract, `is_told` may
+//! outputs and the status of each run. All texts were written by hand. By contract, `is_told` may
 //! be false although standard error took the whole line. These tests require that `is_told` is then
 //! true.
 
@@ -112,11 +112,11 @@ fn compare<T: Abort + Threads + Wait + Sync>(
     compare_ended(rt, &ended, wanted, desk.words);
 }
 
-/// Each row has the words of a call, the texts of standard output and standard error, and the
+/// Each row has a command line, the texts of standard output and standard error, and the
 /// status.
-type Called = (&'static str, &'static str, &'static str, u8);
+type Run = (&'static str, &'static str, &'static str, u8);
 
-const CALLS: &[Called] = &[
+const RUNS: &[Run] = &[
     ("boostmap ", "", USAGE, 2),
     ("boostmap replay steps.json", REPORT, "", 0),
     ("boostmap mix --seed 7 script.json", HISTORY, "", 0),
@@ -133,8 +133,8 @@ const CALLS: &[Called] = &[
     ("boostmap run missing.json", "", READ_FAILED, 4),
 ];
 
-/// Each line has the words of a call that is not valid. `tests/program.sh` has more of them.
-const NO_CALLS: &str = "boostmap
+/// Each line is a command line that is not valid. `tests/program.sh` has more of them.
+const BAD_COMMAND_LINES: &str = "boostmap
 boostmap steps.json
 boostmap replay -x
 boostmap repla steps.json
@@ -147,17 +147,17 @@ boostmap -V";
 
 #[test]
 fn each_command_and_each_status(rt: HostRuntime) {
-    for (words, output, errors, status) in CALLS {
+    for (words, output, errors, status) in RUNS {
         let wanted = (*output, *errors, *status);
         compare(&rt, rt.alloc(), &Desk::new(words, FILES), wanted);
     }
-    for words in NO_CALLS.lines() {
+    for words in BAD_COMMAND_LINES.lines() {
         compare(&rt, rt.alloc(), &Desk::new(words, FILES), ("", USAGE, 2));
     }
 }
 
-/// Each row has a call of the program without threads, both outputs, and the status.
-const UNTHREADED_CALLS: &[Called] = &[
+/// Each row has a command line of the program without threads, both outputs, and the status.
+const UNTHREADED_RUNS: &[Run] = &[
     ("boostmap replay steps.json", REPORT, "", 0),
     ("boostmap run script.json", "", "no thread\n", 4),
     ("boostmap run missing.json", "", READ_FAILED, 4),
@@ -165,13 +165,13 @@ const UNTHREADED_CALLS: &[Called] = &[
 
 #[test]
 fn without_threads(rt: HostRuntime) {
-    for (words, output, errors, status) in UNTHREADED_CALLS {
+    for (words, output, errors, status) in UNTHREADED_RUNS {
         let ended = run_unthreaded(rt.alloc(), &Desk::new(words, FILES));
         compare_ended(&rt, &ended, (*output, *errors, *status), words);
     }
 }
 
-/// Each row has the kind of an error, a pair, and a text. If reading the words of the call fails
+/// Each row has the kind of an error, a pair, and a text. If reading the command line fails
 /// with this kind, standard error and the status must be the pair. If opening the file fails with
 /// this kind, standard error must be the last text.
 const REFUSED: &[(ErrorKind, (&str, u8), &str)] = &[

@@ -151,10 +151,10 @@ pub fn compare_ended(rt: &impl Abort, ended: &Ended, wanted: (&str, &str, u8), r
     assert!(rt; ended.status == status && ended.is_told, "{row}");
 }
 
-/// A system in memory, with the words of a call and with files. Any other file is missing.
+/// A system in memory, with a command line and with files. Any other file is missing.
 #[derive(Clone, Copy)]
 pub struct Desk<'a> {
-    /// The words of the call, with blanks between them.
+    /// The command line, with blanks between its words.
     pub words: &'a str,
     /// The files: names and bytes.
     pub files: &'a [(&'a str, &'a str)],

@@ -13,7 +13,7 @@ use Rattle.txn_trace.proofs.Committing.{own_goes, commits_so}
 use Rattle.txn_trace.proofs.Pushes.{txn_in, txn_at, txn_in-push, of-push_in, alone-push, own-push_in, how_many-push}
 use Rattle.txn_trace.proofs.Callers.{Callers, ended, shaped_number, not_after_end}
 use Rattle.txn_trace.proofs.Shaped.{callers_of, first_of_rest, shape_front}
-use Rattle.txn_trace.proofs.Seated.{none_before, are_seated}
+use Rattle.txn_trace.proofs.StanceRuns.{none_before, have_stances}
 use Rattle.txn_trace.proofs.Steps.{serial-push_commit}
 use Rattle.txn_trace.proofs.Now.{open_going}
 use Rattle.striped_map.specs.Callers.{stripes_held}
@@ -47,7 +47,7 @@ ends n c txn place g k inner legal inner_is quiet =
     let shaped : is_shaped before end ≡ true = first_of_rest before [] end shape_end in
     let callers : Callers before = callers_of before shape_before in
     let began_at : txn_at g begin ≡ Some txn = ap (λ b. cond b (Some txn) (txn_in g c)) (eq-eqb c c refl) in
-    let first : of txn begun ≡ begin ∷ [] = of-push_in txn g begin began_at ∙ ap (λ es. es ++ begin ∷ []) (none_before g begin (callers_of g shape_g) starts (are_seated g shape_g) txn refl began_at) in
+    let first : of txn begun ≡ begin ∷ [] = of-push_in txn g begin began_at ∙ ap (λ es. es ++ begin ∷ []) (none_before g begin (callers_of g shape_g) starts (have_stances g shape_g) txn refl began_at) in
     let (of_is, in_it) = own_goes c txn begun k (callers_of begun shape_begun) shape_before (ap (λ f. f c) (txn_in-push g begin) ∙ began_at) (ap (filter is_began) inner_is ∙ quiet) in
     let so_far : of txn before ≡ begin ∷ inner = of_is ∙ (λ i. first i ++ inner_is i) in
     let all : of txn (before ++ end ∷ []) ≡ begin ∷ inner ++ end ∷ [] = of-push_in txn before end in_it ∙ ap (λ es. es ++ end ∷ []) so_far in

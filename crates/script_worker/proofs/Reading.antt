@@ -3,9 +3,9 @@
 use Rattle.std.proofs.Common.{◌≡◌, ℕ, Bool, true, false, List, [], ◌∷◌, ◌++◌, append-nil, fold, filter, Some, None, Option, option_and_then}
 use Rattle.std.proofs.Common.{is_some, refl, sym, ap, ◌∙◌, ◌==◌, cond, inl, inr, eq-eqb, ne_eqb}
 use Rattle.script_worker.proofs.Vocabulary.{Action, and-false, and-true, ArePlayed, Asked, Began, by_entries, caller_of, cases_eq}
-use Rattle.script_worker.proofs.Vocabulary.{closed_seat, CommitNothing, commits_of, Committed, cons_option, Did, Entry, false≢true}
+use Rattle.script_worker.proofs.Vocabulary.{closed_stance, CommitNothing, commits_of, Committed, cons_option, Did, Entry, false≢true}
 use Rattle.script_worker.proofs.Vocabulary.{filter-append, fold-append, is_began, is_commit, is_commit_of, IsPlayed, IsShaped, Leave, own}
-use Rattle.script_worker.proofs.Vocabulary.{own-push_in, own-push_out, Returned, row, same_from_push, Saved, Seat, seat_after, txn_after}
+use Rattle.script_worker.proofs.Vocabulary.{own-push_in, own-push_out, Returned, row, same_from_push, Saved, Stance, stance_after, txn_after}
 use Rattle.script_worker.proofs.Vocabulary.{txn_at, txn_in, txn_in-push, txns_of-push, Undone, without_undone}
 
 -- Entries that begin no transaction.
@@ -43,18 +43,18 @@ module _ (c : ℕ) (script : List Action) (txn place : ℕ) (inner : List Entry)
       (same_from_push (filter is_commit inner) [] (Committed c place) e
       (sym (filter-append is_commit inner (Committed c place ∷ [])) ∙ with_undone is_commit (λ c. refl) rest ∙ one)).0
 
--- The seat after one more entry, or None if `row` does not allow the entry.
-abbrev seat_step : Option Seat → Entry → Option Seat
-seat_step seat e = option_and_then (λ s. row s s.phase e) seat
+-- The stance after one more entry, or None if `row` does not allow the entry.
+abbrev stance_step : Option Stance → Entry → Option Stance
+stance_step stance e = option_and_then (λ s. row s s.phase e) stance
 
-none_stays : (es : List Entry) → fold seat_step None es ≡ None
+none_stays : (es : List Entry) → fold stance_step None es ≡ None
 none_stays [] = refl
 none_stays (e ∷ es) = none_stays es
 
-pub seat_front : (es fs : List Entry) → is_some (seat_after (es ++ fs)) ≡ true → is_some (seat_after es) ≡ true
-seat_front es fs some = at (seat_after es) (ap is_some (sym (fold-append seat_step (Some closed_seat) es fs)) ∙ some)
+pub stance_front : (es fs : List Entry) → is_some (stance_after (es ++ fs)) ≡ true → is_some (stance_after es) ≡ true
+stance_front es fs some = at (stance_after es) (ap is_some (sym (fold-append stance_step (Some closed_stance) es fs)) ∙ some)
   where
-    at : (o : Option Seat) → is_some (fold seat_step o fs) ≡ true → is_some o ≡ true
+    at : (o : Option Stance) → is_some (fold stance_step o fs) ≡ true → is_some o ≡ true
     at None some = absurd (false≢true (sym (ap is_some (none_stays fs)) ∙ some))
     at (Some s) some = refl
 

@@ -35,17 +35,17 @@ pub use Rattle.txn_drive.specs.declared.turn.Turn.TheVariants.{Ended}
 pub use Rattle.txn_drive.specs.declared.{call.Call.Call, drive.Drive.Drive, phase.Phase.Phase, turn.Turn.Turn, «end».End.End}
 pub use Rattle.txn_trace.proofs.{Callers.ByRecursion-append, Callers.Callers, Callers.in_or_out, Callers.shaped_number}
 pub use Rattle.txn_trace.proofs.{Committing.has_committed, Counts.length-commits, Inductions.by_entries, Pushes.ends_in-push}
-pub use Rattle.txn_trace.proofs.{Pushes.of-push_in, Pushes.of-push_out, Pushes.own-push_in, Pushes.own-push_out, Pushes.seat_after-push}
-pub use Rattle.txn_trace.proofs.{Pushes.txn_at, Pushes.txn_in, Pushes.txn_in-push, Running.has_seat, Steps.commits_are, Steps.txns_of-push}
+pub use Rattle.txn_trace.proofs.{Pushes.of-push_in, Pushes.of-push_out, Pushes.own-push_in, Pushes.own-push_out, Pushes.stance_after-push}
+pub use Rattle.txn_trace.proofs.{Pushes.txn_at, Pushes.txn_in, Pushes.txn_in-push, Running.has_stance, Steps.commits_are, Steps.txns_of-push}
 pub use Rattle.txn_trace.specs.History.{commits, ends_in, of, txn_after, txns_of}
 pub use Rattle.txn_trace.specs.Plays.{ArePlayed, commits_of, is_commit_of, is_undone, IsPlayed, PlayRising, PlayScripts, without_undone}
 pub use Rattle.txn_trace.specs.{Legal.IsLegal, Replies.RepliesHold}
 pub use Rattle.txn_words.specs.Kinds.{caller_of, is_began, is_commit}
-pub use Rattle.txn_words.specs.Shape.{closed_seat, how_many, is_numbered, is_shaped, IsShaped, own, row, Seat, seat_after}
-pub use Rattle.txn_words.specs.{Entries.entries_of, Map.key_of, Seats.refusal_in, Sizes.is_bad_key, Sizes.Sizes}
+pub use Rattle.txn_words.specs.Shape.{closed_stance, how_many, is_numbered, is_shaped, IsShaped, own, row, Stance, stance_after}
+pub use Rattle.txn_words.specs.{Entries.entries_of, Map.key_of, Stances.refusal_in, Sizes.is_bad_key, Sizes.Sizes}
 pub use Rattle.txn_words.specs.declared.entry.Entry.TheVariants.{Aborted, Asked, Began, Busy, Committed, Did, Leave, Returned, Saved}
 pub use Rattle.txn_words.specs.declared.entry.Entry.TheVariants.{Undone}
 pub use Rattle.txn_words.specs.declared.refusal.Refusal.TheVariants.{BadKey, NoMemory, NoSuchLevel, OutOfStep, StaleWord, StampsUsedUp}
-pub use Rattle.txn_words.specs.declared.seat.Phase.TheVariants.{Closed, LeavingTo, LeavingToEnd, Opened, Waiting}
+pub use Rattle.txn_words.specs.declared.stance.Phase.TheVariants.{Closed, LeavingTo, LeavingToEnd, Opened, Waiting}
 pub use Rattle.txn_words.specs.declared.{action.Action.Action, answer.Answer.Answer, entry.Entry.Entry, holder.Holder.Holder}
 pub use Rattle.txn_words.specs.declared.{holder.Holder.TheVariants.Begun, refusal.Refusal.Refusal, step.Step.Step}

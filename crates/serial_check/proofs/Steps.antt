@@ -11,7 +11,7 @@ use Rattle.txn_words.specs.Shape.{is_shaped, IsShaped}
 use Rattle.txn_trace.proofs.Pushes.{txn_at, of-push_in, of-push_out}
 use Rattle.txn_trace.proofs.Callers.{Callers, is_end, at_is, not_began_is}
 use Rattle.txn_trace.proofs.Shaped.{callers_of, step, same, not_ended_before, ended_in}
-use Rattle.txn_trace.proofs.Seated.{are_seated, none_before}
+use Rattle.txn_trace.proofs.StanceRuns.{have_stances, none_before}
 use Rattle.txn_trace.proofs.Steps.{serial-push_other, serial-push_commit, map_after-commit}
 use Rattle.txn_trace.proofs.Now.{open_going, going_open}
 use Rattle.txn_trace.proofs.BadEntries.{shape_push}
@@ -42,7 +42,7 @@ module _ (g : List Entry) (e : Entry) (shape : IsShaped g) (shaped : is_shaped g
   -- If the entry begins a transaction, this transaction has no other entry.
   pub begins_there : is_began e ≡ true → (t : ℕ) → txn_in (g ++ e ∷ []) (caller_of e) ≡ Some t → of t (g ++ e ∷ []) ≡ e ∷ []
   begins_there began t in_t = elim (step g e callers shaped (caller_of e) t in_t) [
-    | inl mine ↦ of-push_in t g e mine.1 ∙ ap (λ es. es ++ e ∷ []) (none_before g e callers shaped (are_seated g shape) t began mine.1)
+    | inl mine ↦ of-push_in t g e mine.1 ∙ ap (λ es. es ++ e ∷ []) (none_before g e callers shaped (have_stances g shape) t began mine.1)
     | inr other ↦ absurd (other.0 refl)
   ]
 

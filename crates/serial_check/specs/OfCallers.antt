@@ -3,7 +3,7 @@ use Rattle.std.specs.Prelude.{ℕ, ◌≡◌, true, false, Some, List, [], ◌�
 use Rattle.std.specs.Option.{IfSome}
 use Rattle.txn_words.specs.declared.entry.Entry.{Entry}
 use Rattle.txn_words.specs.Kinds.{caller_of, is_commit, is_abort}
-use Rattle.txn_words.specs.Shape.{seat_after, own, is_shaped, IsShaped}
+use Rattle.txn_words.specs.Shape.{stance_after, own, is_shaped, IsShaped}
 use Rattle.txn_trace.specs.History.{is_open, of}
 use Rattle.txn_trace.specs.Legal.{is_running}
 use Rattle.txn_trace.specs.Log.{log_of}
@@ -25,7 +25,7 @@ IsOfTxn h c foot =
 -- The footprint is that of the caller's open transaction. If the caller is in no transaction, the
 -- footprint is empty.
 pub record IsOfCaller (h : List Entry) (c : ℕ) (foot : Footprint) : Type 0 where
-  pub idle : is_running (seat_after (own c h)) ≡ false → IsFresh foot
+  pub idle : is_running (stance_after (own c h)) ≡ false → IsFresh foot
   pub of_txn : IsOfTxn h c foot
 
 -- After these entries, each caller has the footprint of its transaction.

@@ -8,7 +8,7 @@ use Rattle.txn_words.specs.declared.op.Op.{Op}
 use Rattle.txn_words.specs.Held.{times}
 use Rattle.txn_trace.specs.Legal.{IsLegal}
 use Rattle.txn_trace.specs.Log.{log_of}
-use Rattle.stripe_part.specs.PartAt.{PartAt}
+use Rattle.stripe_shard.specs.ShardAt.{ShardAt}
 use Rattle.striped_map.specs.declared.hand.Hand.{Hand}
 use Rattle.striped_map.specs.declared.map.StripedMap.{StripedMap}
 use Rattle.striped_map.specs.declared.seat.MapSeat.{MapSeat}
@@ -126,8 +126,8 @@ on_from map a b c same x = record {
 }
 
 -- If a seat takes another stripe, it still holds each stripe that it held before.
-pub holds_taken : (n k : ℕ) (v w : View) (part : PartAt) → GainsStripe n k v part w → (other : ℕ) → Holds v other → Holds w other
-holds_taken n k v w part t other hold = subst (λ (u : View). Holds u other) (sym t.view_is) (let h : 0 < times other v.held = hold in let more : 0 < times other (k ∷ v.held) = omega arith in more)
+pub holds_taken : (n k : ℕ) (v w : View) (shard : ShardAt) → GainsStripe n k v shard w → (other : ℕ) → Holds v other → Holds w other
+holds_taken n k v w shard t other hold = subst (λ (u : View). Holds u other) (sym t.view_is) (let h : 0 < times other v.held = hold in let more : 0 < times other (k ∷ v.held) = omega arith in more)
 
 pub holds_found : (n holder : ℕ) (v w : View) → SeesHolder n v holder w → (other : ℕ) → Holds v other → Holds w other
 holds_found n holder v w f other hold = subst (λ (u : View). Holds u other) (sym f.sees.view_is) hold
@@ -137,8 +137,8 @@ pub moved_seen : (map : StripedMap) (a b : Hand) → SeesIn (stripes_of map) (kn
 moved_seen map a b x = record { number_is = ap (λ (v : View). v.number) x.view_is; retired_is = ap (λ (v : View). v.retired) x.view_is; made_is = ap (λ (v : View). v.made) x.view_is; parent_is = ap (λ (v : View). v.parent) x.view_is; keep_is = ap (λ (v : View). v.keep) x.view_is; goes = x.goes }
 
 -- If a seat takes a stripe, it gains at most this stripe.
-pub gained_taken : (n k : ℕ) (v w : View) (part : PartAt) → GainsStripe n k v part w → GainsAtMost k v.held w.held
-gained_taken n k v w part t = inr (ap (λ (u : View). u.held) t.view_is)
+pub gained_taken : (n k : ℕ) (v w : View) (shard : ShardAt) → GainsStripe n k v shard w → GainsAtMost k v.held w.held
+gained_taken n k v w shard t = inr (ap (λ (u : View). u.held) t.view_is)
 
 pub gained_found : (n holder k : ℕ) (v w : View) → SeesHolder n v holder w → GainsAtMost k v.held w.held
 gained_found n holder k v w f = inl (ap (λ (u : View). u.held) f.sees.view_is)

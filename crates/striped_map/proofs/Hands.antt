@@ -1,4 +1,4 @@
--- Shows how each step changes the parts that a caller holds, because they have the values of the
+-- Shows how each step changes the shards that a caller holds, because they have the values of the
 -- map that it has seen (`AreHeld`) and owe exactly its changes (`AreLogged`).
 use Rattle.std.proofs.Common.{◌≡◌, ◌≢◌, ℕ, zero, suc, ◌+◌, ◌*◌, ◌/◌, ◌%◌, ◌<◌, ◌⊎◌, Bool, true, false, cond, List, [], ◌∷◌, ◌++◌, length, get_or, set, map, reverse, take, drop, Option, Some, slice_get, sym, refl, ◌∙◌, ap, subst, inl, inr, ⊎_elim, arith, eq-eqb, ne_eqb, append-nil, append_assoc}
 use mathlib.Core.Logic.{dite}
@@ -22,15 +22,15 @@ use Rattle.txn_words.specs.Shape.{changes, own}
 use Rattle.txn_words.proofs.Effects.{get-after_other}
 use Rattle.txn_words.proofs.Holding.{times_reverse, times_at, at_times, removed_same}
 use Rattle.txn_words.proofs.Maps.{get-insert-here, get-remove-here, get-set_at}
-use Rattle.stripe_part.specs.PartAt.{PartAt}
-use Rattle.stripe_part.specs.Calls.{Does, TakesBack}
+use Rattle.stripe_shard.specs.ShardAt.{ShardAt}
+use Rattle.stripe_shard.specs.Calls.{Does, TakesBack}
 use Rattle.striped_map.specs.declared.view.View.{View}
 use Rattle.striped_map.specs.declared.seat.MapSeat.{MapSeat}
-use Rattle.striped_map.specs.Rule.{Holds, IsPartOf}
-use Rattle.striped_map.specs.Seats.{HoldsAll, LeavesOthers, part_in}
+use Rattle.striped_map.specs.Rule.{Holds, IsShardOf}
+use Rattle.striped_map.specs.Seats.{HoldsAll, LeavesOthers, shard_in}
 use Rattle.striped_map.specs.Steps.{Extends, GainsStripe, lost, rolled_back}
 use Rattle.striped_map.specs.Handling.{under}
-use Rattle.striped_map.specs.Sound.{HeldPart, held_parts, stripes_in, with_part, owed_on, at_place, of_job, Change, Spot, AreHeld, AreLogged}
+use Rattle.striped_map.specs.Sound.{HeldShard, held_shards, stripes_in, with_shard, owed_on, at_place, of_job, Change, Spot, AreHeld, AreLogged}
 use Rattle.striped_map.proofs.AdditionLemmas.{asks_none, own-append, own-none}
 
 abbrev pub Job : Type 0
@@ -65,68 +65,68 @@ read_at [] k h lt e = absurd (omega arith)
 read_at (x ∷ xs) zero h lt e = ap (λ (y : ℕ). Some y) (sym e)
 read_at (x ∷ xs) (suc k) h lt e = read_at xs k h (omega arith) e
 
--- If a part is appended to a list of parts, its stripe is appended to the list of their stripes.
-pub stripes_push : (held : List HeldPart) (h : HeldPart) → stripes_in (held ++ h ∷ []) ≡ stripes_in held ++ h.stripe ∷ []
+-- If a shard is appended to a list of shards, its stripe is appended to the list of their stripes.
+pub stripes_push : (held : List HeldShard) (h : HeldShard) → stripes_in (held ++ h ∷ []) ≡ stripes_in held ++ h.stripe ∷ []
 stripes_push [] h = refl
 stripes_push (x ∷ held) h = ap (λ (l : List ℕ). x.stripe ∷ l) (stripes_push held h)
 
-pub stripe_at : (held : List HeldPart) (i : ℕ) (h : HeldPart) → slice_get held i ≡ Some h → slice_get (stripes_in held) i ≡ Some h.stripe
+pub stripe_at : (held : List HeldShard) (i : ℕ) (h : HeldShard) → slice_get held i ≡ Some h → slice_get (stripes_in held) i ≡ Some h.stripe
 stripe_at [] i h e = absurd (none-some h e)
-stripe_at (x ∷ held) zero h e = ap (λ (y : HeldPart). Some y.stripe) (same_Some x h e)
+stripe_at (x ∷ held) zero h e = ap (λ (y : HeldShard). Some y.stripe) (same_Some x h e)
 stripe_at (x ∷ held) (suc i) h e = stripe_at held i h e
 
-pub stripes_set : (held : List HeldPart) (j : ℕ) (h new : HeldPart) → slice_get held j ≡ Some h → new.stripe ≡ h.stripe → stripes_in (set held j new) ≡ stripes_in held
+pub stripes_set : (held : List HeldShard) (j : ℕ) (h new : HeldShard) → slice_get held j ≡ Some h → new.stripe ≡ h.stripe → stripes_in (set held j new) ≡ stripes_in held
 stripes_set [] j h new at same = refl
-stripes_set (x ∷ held) zero h new at same = ap (λ (k : ℕ). k ∷ stripes_in held) (same ∙ ap (λ (y : HeldPart). y.stripe) (sym (same_Some x h at)))
+stripes_set (x ∷ held) zero h new at same = ap (λ (k : ℕ). k ∷ stripes_in held) (same ∙ ap (λ (y : HeldShard). y.stripe) (sym (same_Some x h at)))
 stripes_set (x ∷ held) (suc j) h new at same = ap (λ (l : List ℕ). x.stripe ∷ l) (stripes_set held j h new at same)
 
--- If each stripe of a list is paired with its part, the stripes of the pairs form the same list.
-pub stripes_with : (f : ℕ → PartAt) (ks : List ℕ) → stripes_in (map (with_part f) ks) ≡ ks
+-- If each stripe of a list is paired with its shard, the stripes of the pairs form the same list.
+pub stripes_with : (f : ℕ → ShardAt) (ks : List ℕ) → stripes_in (map (with_shard f) ks) ≡ ks
 stripes_with f [] = refl
 stripes_with f (k ∷ ks) = ap (λ (l : List ℕ). k ∷ l) (stripes_with f ks)
 
-pub with_at : (f : ℕ → PartAt) (ks : List ℕ) (i k : ℕ) → slice_get ks i ≡ Some k → slice_get (map (with_part f) ks) i ≡ Some (with_part f k)
+pub with_at : (f : ℕ → ShardAt) (ks : List ℕ) (i k : ℕ) → slice_get ks i ≡ Some k → slice_get (map (with_shard f) ks) i ≡ Some (with_shard f k)
 with_at f [] i k e = absurd (none-some k e)
-with_at f (x ∷ ks) zero k e = ap (λ (y : ℕ). Some (with_part f y)) (same_Some x k e)
+with_at f (x ∷ ks) zero k e = ap (λ (y : ℕ). Some (with_shard f y)) (same_Some x k e)
 with_at f (x ∷ ks) (suc i) k e = with_at f ks i k e
 
-pub with_push : (f : ℕ → PartAt) (ks : List ℕ) (k : ℕ) → map (with_part f) (ks ++ k ∷ []) ≡ map (with_part f) ks ++ with_part f k ∷ []
+pub with_push : (f : ℕ → ShardAt) (ks : List ℕ) (k : ℕ) → map (with_shard f) (ks ++ k ∷ []) ≡ map (with_shard f) ks ++ with_shard f k ∷ []
 with_push f [] k = refl
-with_push f (x ∷ ks) k = ap (λ (l : List HeldPart). with_part f x ∷ l) (with_push f ks k)
+with_push f (x ∷ ks) k = ap (λ (l : List HeldShard). with_shard f x ∷ l) (with_push f ks k)
 
--- If `f` and `g` give each stripe of `ks` the same part, the lists of these stripes with their
--- parts are equal.
-pub with_same : (f g : ℕ → PartAt) (ks : List ℕ) → ((i k : ℕ) → slice_get ks i ≡ Some k → g k ≡ f k) → map (with_part g) ks ≡ map (with_part f) ks
+-- If `f` and `g` give each stripe of `ks` the same shard, the lists of these stripes with their
+-- shards are equal.
+pub with_same : (f g : ℕ → ShardAt) (ks : List ℕ) → ((i k : ℕ) → slice_get ks i ≡ Some k → g k ≡ f k) → map (with_shard g) ks ≡ map (with_shard f) ks
 with_same f g [] same = refl
-with_same f g (x ∷ ks) same = ap (λ (p : PartAt). (record { stripe = x; part = p }) ∷ map (with_part g) ks) (same 0 x refl) ∙ ap (λ (l : List HeldPart). with_part f x ∷ l) (with_same f g ks (λ i k at. same (suc i) k at))
+with_same f g (x ∷ ks) same = ap (λ (p : ShardAt). (record { stripe = x; shard = p }) ∷ map (with_shard g) ks) (same 0 x refl) ∙ ap (λ (l : List HeldShard). with_shard f x ∷ l) (with_same f g ks (λ i k at. same (suc i) k at))
 
-pub with_set : (f g : ℕ → PartAt) (ks : List ℕ) (j k : ℕ) → slice_get ks j ≡ Some k → ((i : ℕ) → slice_get ks i ≡ Some k → i ≡ j) → ((other : ℕ) → other ≢ k → g other ≡ f other) → map (with_part g) ks ≡ set (map (with_part f) ks) j (with_part g k)
+pub with_set : (f g : ℕ → ShardAt) (ks : List ℕ) (j k : ℕ) → slice_get ks j ≡ Some k → ((i : ℕ) → slice_get ks i ≡ Some k → i ≡ j) → ((other : ℕ) → other ≢ k → g other ≡ f other) → map (with_shard g) ks ≡ set (map (with_shard f) ks) j (with_shard g k)
 with_set f g [] j k at apart same = absurd (none-some k at)
-with_set f g (x ∷ ks) zero k at apart same = ap (λ (y : ℕ). with_part g y ∷ map (with_part g) ks) (same_Some x k at)
-    ∙ ap (λ (l : List HeldPart). with_part g k ∷ l) (with_same f g ks (λ i other there. same other (λ e. absurd (let z = apart (suc i) (there ∙ ap (λ (y : ℕ). Some y) e) in omega arith))))
-with_set f g (x ∷ ks) (suc j) k at apart same = ap (λ (p : PartAt). (record { stripe = x; part = p }) ∷ map (with_part g) ks) (same x (λ e. absurd (let z = apart 0 (ap (λ (y : ℕ). Some y) e) in omega arith)))
-    ∙ ap (λ (l : List HeldPart). with_part f x ∷ l) (with_set f g ks j k at (λ i there. let z = apart (suc i) there in omega arith) same)
+with_set f g (x ∷ ks) zero k at apart same = ap (λ (y : ℕ). with_shard g y ∷ map (with_shard g) ks) (same_Some x k at)
+    ∙ ap (λ (l : List HeldShard). with_shard g k ∷ l) (with_same f g ks (λ i other there. same other (λ e. absurd (let z = apart (suc i) (there ∙ ap (λ (y : ℕ). Some y) e) in omega arith))))
+with_set f g (x ∷ ks) (suc j) k at apart same = ap (λ (p : ShardAt). (record { stripe = x; shard = p }) ∷ map (with_shard g) ks) (same x (λ e. absurd (let z = apart 0 (ap (λ (y : ℕ). Some y) e) in omega arith)))
+    ∙ ap (λ (l : List HeldShard). with_shard f x ∷ l) (with_set f g ks j k at (λ i there. let z = apart (suc i) there in omega arith) same)
 
--- If `AreHeld` holds for a list of parts, the seat holds the stripe of each part.
-pub holds_at : (n : ℕ) (v : View) (held : List HeldPart) (m : Map) → AreHeld n v held m → (i k : ℕ) → slice_get (stripes_in held) i ≡ Some k → Holds v k
+-- If `AreHeld` holds for a list of shards, the seat holds the stripe of each shard.
+pub holds_at : (n : ℕ) (v : View) (held : List HeldShard) (m : Map) → AreHeld n v held m → (i k : ℕ) → slice_get (stripes_in held) i ≡ Some k → Holds v k
 holds_at n v held m s i k at = subst (λ (ks : List ℕ). 0 < times k ks) (sym s.kept) (let t : 0 < times k (stripes_in held) = times_at (stripes_in held) i k at in omega (arith, times_reverse k (stripes_in held)))
 
--- If `AreHeld` holds for a list of parts, the seat holds only stripes of these parts.
-pub not_held : (n : ℕ) (v : View) (held : List HeldPart) (m : Map) → AreHeld n v held m → (k : ℕ) → ((i : ℕ) → slice_get (stripes_in held) i ≢ Some k) → Holds v k → ⊥
+-- If `AreHeld` holds for a list of shards, the seat holds only stripes of these shards.
+pub not_held : (n : ℕ) (v : View) (held : List HeldShard) (m : Map) → AreHeld n v held m → (k : ℕ) → ((i : ℕ) → slice_get (stripes_in held) i ≢ Some k) → Holds v k → ⊥
 not_held n v held m s k none hold = let h : 0 < times k (reverse (stripes_in held)) = subst (λ (ks : List ℕ). 0 < times k ks) s.kept hold in
     let at = at_times (stripes_in held) k (omega (arith, times_reverse k (stripes_in held))) in none at.0 at.1
 
--- If parts fit a map, they also fit each map that has the same values in the held stripes.
-pub parts_on : (n : ℕ) (v w : View) (held : List HeldPart) (m k : Map) → AreHeld n v held m → w.held ≡ v.held → ((key : ℕ) → Holds v (stripe_of n key) → get k key ≡ get m key) → AreHeld n w held k
-parts_on n v w held m k s same have = record {
+-- If shards fit a map, they also fit each map that has the same values in the held stripes.
+pub shards_on : (n : ℕ) (v w : View) (held : List HeldShard) (m k : Map) → AreHeld n v held m → w.held ≡ v.held → ((key : ℕ) → Holds v (stripe_of n key) → get k key ≡ get m key) → AreHeld n w held k
+shards_on n v w held m k s same have = record {
   kept = same ∙ s.kept;
   apart = s.apart;
   fits = λ i h at q in_k. s.fits i h at q in_k ∙ sym (have q (subst (Holds v) (sym in_k) (holds_at n v held m s i h.stripe (stripe_at held i h at))));
 }
 
--- If a seat takes a stripe and the stripe's part is added to the held parts, `AreHeld` still holds.
-pub parts_taken : (n k : ℕ) (v w : View) (held : List HeldPart) (part : PartAt) → AreHeld n v held (now v.seen) → ((i : ℕ) → slice_get (stripes_in held) i ≢ Some k) → GainsStripe n k v part w → AreHeld n w (held ++ (record { stripe = k; part = part }) ∷ []) (now w.seen)
-parts_taken n k v w held part s none t = let new : HeldPart = record { stripe = k; part = part } in let ks : List ℕ = stripes_in held in
+-- If a seat takes a stripe and the stripe's shard is added to the held shards, `AreHeld` still holds.
+pub shards_taken : (n k : ℕ) (v w : View) (held : List HeldShard) (shard : ShardAt) → AreHeld n v held (now v.seen) → ((i : ℕ) → slice_get (stripes_in held) i ≢ Some k) → GainsStripe n k v shard w → AreHeld n w (held ++ (record { stripe = k; shard = shard }) ∷ []) (now w.seen)
+shards_taken n k v w held shard s none t = let new : HeldShard = record { stripe = k; shard = shard } in let ks : List ℕ = stripes_in held in
     let is : stripes_in (held ++ new ∷ []) ≡ ks ++ k ∷ [] = stripes_push held new in
     record {
       kept = ap (λ (x : View). x.held) t.view_is ∙ ap (λ (l : List ℕ). k ∷ l) s.kept ∙ sym (reverse-append ks (k ∷ [])) ∙ ap reverse (sym is);
@@ -138,34 +138,34 @@ parts_taken n k v w held part s none t = let new : HeldPart = record { stripe = 
           (push_at ks k stripe i (ap (λ (l : List ℕ). slice_get l i) (sym is) ∙ a));
       fits = λ i h at. ⊎_elim
           (λ (x : slice_get held i ≡ Some h). λ q in_k. s.fits i h x q in_k ∙ sym (t.still q (subst (Holds v) (sym in_k) (holds_at n v held (now v.seen) s i h.stripe (stripe_at held i h x)))))
-          (λ (x : (i ≡ length held) × (new ≡ h)). subst (λ (y : HeldPart). IsPartOf n y.stripe y.part (now w.seen)) x.1 t.part_is.fits) (push_at held new h i at);
+          (λ (x : (i ≡ length held) × (new ≡ h)). subst (λ (y : HeldShard). IsShardOf n y.stripe y.shard (now w.seen)) x.1 t.shard_is.fits) (push_at held new h i at);
     }
 
--- The part at a place of `held_parts` belongs to the stripe at the same place in the list of
+-- The shard at a place of `held_shards` belongs to the stripe at the same place in the list of
 -- stripes.
-pub stripe_in : (seat : MapSeat) (ks : List ℕ) (i k : ℕ) → slice_get ks i ≡ Some k → slice_get (stripes_in (held_parts seat ks)) i ≡ Some k
-stripe_in seat ks i k at = ap (λ (l : List ℕ). slice_get l i) (stripes_with (part_in seat) ks) ∙ at
+pub stripe_in : (seat : MapSeat) (ks : List ℕ) (i k : ℕ) → slice_get ks i ≡ Some k → slice_get (stripes_in (held_shards seat ks)) i ≡ Some k
+stripe_in seat ks i k at = ap (λ (l : List ℕ). slice_get l i) (stripes_with (shard_in seat) ks) ∙ at
 
-pub none_in : (seat : MapSeat) (ks : List ℕ) (k : ℕ) → ((i : ℕ) → slice_get ks i ≢ Some k) → (i : ℕ) → slice_get (stripes_in (held_parts seat ks)) i ≢ Some k
-none_in seat ks k none i at = none i (ap (λ (l : List ℕ). slice_get l i) (sym (stripes_with (part_in seat) ks)) ∙ at)
+pub none_in : (seat : MapSeat) (ks : List ℕ) (k : ℕ) → ((i : ℕ) → slice_get ks i ≢ Some k) → (i : ℕ) → slice_get (stripes_in (held_shards seat ks)) i ≢ Some k
+none_in seat ks k none i at = none i (ap (λ (l : List ℕ). slice_get l i) (sym (stripes_with (shard_in seat) ks)) ∙ at)
 
-pub apart_in : (n : ℕ) (v : View) (seat : MapSeat) (ks : List ℕ) (m : Map) → AreHeld n v (held_parts seat ks) m → (i j k : ℕ) → slice_get ks i ≡ Some k → slice_get ks j ≡ Some k → i ≡ j
+pub apart_in : (n : ℕ) (v : View) (seat : MapSeat) (ks : List ℕ) (m : Map) → AreHeld n v (held_shards seat ks) m → (i j k : ℕ) → slice_get ks i ≡ Some k → slice_get ks j ≡ Some k → i ≡ j
 apart_in n v seat ks m s i j k x y = s.apart i j k (stripe_in seat ks i k x) (stripe_in seat ks j k y)
 
-pub holds_in : (n : ℕ) (v : View) (seat : MapSeat) (ks : List ℕ) (m : Map) → AreHeld n v (held_parts seat ks) m → HoldsAll v ks
-holds_in n v seat ks m s i k at = holds_at n v (held_parts seat ks) m s i k (stripe_in seat ks i k at)
+pub holds_in : (n : ℕ) (v : View) (seat : MapSeat) (ks : List ℕ) (m : Map) → AreHeld n v (held_shards seat ks) m → HoldsAll v ks
+holds_in n v seat ks m s i k at = holds_at n v (held_shards seat ks) m s i k (stripe_in seat ks i k at)
 
--- If a seat takes a stripe and its other parts are unchanged, the stripe's part is appended to the
--- list of held parts.
-pub parts_pushed : (a b : MapSeat) (ks : List ℕ) (k : ℕ) → ((i : ℕ) → slice_get ks i ≢ Some k) → LeavesOthers k a b → held_parts b (ks ++ k ∷ []) ≡ held_parts a ks ++ with_part (part_in b) k ∷ []
-parts_pushed a b ks k none others = with_push (part_in b) ks k ∙ ap (λ (l : List HeldPart). l ++ with_part (part_in b) k ∷ [])
-    (with_same (part_in a) (part_in b) ks (λ i other at. others other (λ e. none i (at ∙ ap (λ (x : ℕ). Some x) e))))
+-- If a seat takes a stripe and its other shards are unchanged, the stripe's shard is appended to the
+-- list of held shards.
+pub shards_pushed : (a b : MapSeat) (ks : List ℕ) (k : ℕ) → ((i : ℕ) → slice_get ks i ≢ Some k) → LeavesOthers k a b → held_shards b (ks ++ k ∷ []) ≡ held_shards a ks ++ with_shard (shard_in b) k ∷ []
+shards_pushed a b ks k none others = with_push (shard_in b) ks k ∙ ap (λ (l : List HeldShard). l ++ with_shard (shard_in b) k ∷ [])
+    (with_same (shard_in a) (shard_in b) ks (λ i other at. others other (λ e. none i (at ∙ ap (λ (x : ℕ). Some x) e))))
 
-pub parts_worked : (n : ℕ) (v : View) (a b : MapSeat) (ks : List ℕ) (m : Map) → AreHeld n v (held_parts a ks) m → (j k : ℕ) → slice_get ks j ≡ Some k → LeavesOthers k a b → held_parts b ks ≡ set (held_parts a ks) j (with_part (part_in b) k)
-parts_worked n v a b ks m s j k at others = with_set (part_in a) (part_in b) ks j k at (λ i there. apart_in n v a ks m s i j k there at) others
+pub shards_worked : (n : ℕ) (v : View) (a b : MapSeat) (ks : List ℕ) (m : Map) → AreHeld n v (held_shards a ks) m → (j k : ℕ) → slice_get ks j ≡ Some k → LeavesOthers k a b → held_shards b ks ≡ set (held_shards a ks) j (with_shard (shard_in b) k)
+shards_worked n v a b ks m s j k at others = with_set (shard_in a) (shard_in b) ks j k at (λ i there. apart_in n v a ks m s i j k there at) others
 
-pub parts_less : (n : ℕ) (v : View) (a b : MapSeat) (ks : List ℕ) (k : ℕ) (m : Map) → AreHeld n v (held_parts a (ks ++ k ∷ [])) m → LeavesOthers k a b → held_parts b ks ≡ held_parts a ks
-parts_less n v a b ks k m s others = with_same (part_in a) (part_in b) ks (λ i other at. others other (λ e.
+pub shards_less : (n : ℕ) (v : View) (a b : MapSeat) (ks : List ℕ) (k : ℕ) (m : Map) → AreHeld n v (held_shards a (ks ++ k ∷ [])) m → LeavesOthers k a b → held_shards b ks ≡ held_shards a ks
+shards_less n v a b ks k m s others = with_same (shard_in a) (shard_in b) ks (λ i other at. others other (λ e.
     let last : i ≡ length ks = apart_in n v a (ks ++ k ∷ []) m s i (length ks) k (push_old ks k k i (at ∙ ap (λ (x : ℕ). Some x) e)) (push_last ks k) in
     let lt : i < length ks = slice_get_within ks i other at in omega arith))
 
@@ -188,7 +188,7 @@ spot_same : (a b : Option ℕ) (x y : Job) → a ≡ b → x ≡ y → ◌≡◌
 spot_same a b x y e f i = (e i, f i)
 
 -- `change` is the newest change of `jobs`, in the form that a hand keeps: with the place of its
--- part, and with its sub-key.
+-- shard, and with its sub-key.
 pub record Newest (n : ℕ) (change : Change) (ks : List ℕ) (changes : List Change) (jobs : List Job) : Type 0 where
   pub job : Job
   pub older : List Job
@@ -226,32 +226,32 @@ ordered_push n k ks (change ∷ changes) (job ∷ jobs) e =
     let more = ordered_push n k ks changes jobs (tail_same (at_place ks change) (of_job n job) (map (at_place ks) changes) (map (of_job n) jobs) e) in
     ap (λ (s : Spot). s ∷ map (at_place (ks ++ k ∷ [])) changes) (spot_same _ _ _ _ (push_old ks k (stripe_of n job.0) change.0 here) what) ∙ ap (λ (l : List Spot). of_job n job ∷ l) more
 
-pub logged_taken : (n k : ℕ) (held : List HeldPart) (order : List Change) (jobs : List Job) (part : PartAt) → AreLogged n held order jobs → ((i : ℕ) → slice_get (stripes_in held) i ≢ Some k) → part.owed ≡ 0 → AreLogged n (held ++ (record { stripe = k; part = part }) ∷ []) order jobs
-logged_taken n k held order jobs part s none empty = let new : HeldPart = record { stripe = k; part = part } in let ks : List ℕ = stripes_in held in record {
+pub logged_taken : (n k : ℕ) (held : List HeldShard) (order : List Change) (jobs : List Job) (shard : ShardAt) → AreLogged n held order jobs → ((i : ℕ) → slice_get (stripes_in held) i ≢ Some k) → shard.owed ≡ 0 → AreLogged n (held ++ (record { stripe = k; shard = shard }) ∷ []) order jobs
+logged_taken n k held order jobs shard s none empty = let new : HeldShard = record { stripe = k; shard = shard } in let ks : List ℕ = stripes_in held in record {
   owed = λ i h at. ⊎_elim (λ (x : slice_get held i ≡ Some h). s.owed i h x)
-      (λ (x : (i ≡ length held) × (new ≡ h)). subst (λ (y : HeldPart). y.part.owed ≡ owed_on n y.stripe jobs) x.1 (empty ∙ sym (owed_none n k ks (reverse order) jobs s.ordered none))) (push_at held new h i at);
+      (λ (x : (i ≡ length held) × (new ≡ h)). subst (λ (y : HeldShard). y.shard.owed ≡ owed_on n y.stripe jobs) x.1 (empty ∙ sym (owed_none n k ks (reverse order) jobs s.ordered none))) (push_at held new h i at);
   ordered = ap (λ (l : List ℕ). map (at_place l) (reverse order)) (stripes_push held new) ∙ ordered_push n k ks (reverse order) jobs s.ordered;
 }
 
--- If the part at the place `j` of the list `held` is replaced, and the map changes only at keys of
--- this part's stripe, the parts of the new list fit the new map.
-pub parts_changed : (n : ℕ) (v : View) (held : List HeldPart) (m k : Map) → AreHeld n v held m → (j : ℕ) (h new : HeldPart) → slice_get held j ≡ Some h → new.stripe ≡ h.stripe
-    → IsPartOf n h.stripe new.part k → ((q : ℕ) → stripe_of n q ≢ h.stripe → get k q ≡ get m q) → AreHeld n v (set held j new) k
-parts_changed n v held m k s j h new at same fits still = let is = stripes_set held j h new at same in record {
+-- If the shard at the place `j` of the list `held` is replaced, and the map changes only at keys of
+-- this shard's stripe, the shards of the new list fit the new map.
+pub shards_changed : (n : ℕ) (v : View) (held : List HeldShard) (m k : Map) → AreHeld n v held m → (j : ℕ) (h new : HeldShard) → slice_get held j ≡ Some h → new.stripe ≡ h.stripe
+    → IsShardOf n h.stripe new.shard k → ((q : ℕ) → stripe_of n q ≢ h.stripe → get k q ≡ get m q) → AreHeld n v (set held j new) k
+shards_changed n v held m k s j h new at same fits still = let is = stripes_set held j h new at same in record {
   kept = s.kept ∙ ap reverse (sym is);
   apart = λ a b stripe x y. s.apart a b stripe (ap (λ (l : List ℕ). slice_get l a) (sym is) ∙ x) (ap (λ (l : List ℕ). slice_get l b) (sym is) ∙ y);
   fits = λ i other there. ⊎_elim
-      (λ (t : (i ≡ j) × (new ≡ other)). subst (λ (y : HeldPart). IsPartOf n y.stripe y.part k) t.1 (subst (λ (stripe : ℕ). IsPartOf n stripe new.part k) (sym same) fits))
+      (λ (t : (i ≡ j) × (new ≡ other)). subst (λ (y : HeldShard). IsShardOf n y.stripe y.shard k) t.1 (subst (λ (stripe : ℕ). IsShardOf n stripe new.shard k) (sym same) fits))
       (λ (t : (i ≢ j) × (slice_get held i ≡ Some other)). λ q in_k. s.fits i other t.1 q in_k
       ∙ sym (still q (λ in_h. t.0 (s.apart i j h.stripe (stripe_at held i other t.1 ∙ ap (λ (x : ℕ). Some x) (sym in_k ∙ in_h)) (stripe_at held j h at))))) (set_place held j i new other there);
 }
 
-pub logged_changed : (n : ℕ) (v : View) (held : List HeldPart) (m : Map) (order later : List Change) (jobs more : List Job) → AreHeld n v held m → AreLogged n held order jobs → (j : ℕ) (h new : HeldPart) → slice_get held j ≡ Some h → new.stripe ≡ h.stripe
-    → new.part.owed ≡ owed_on n h.stripe more → ((k : ℕ) → k ≢ h.stripe → owed_on n k more ≡ owed_on n k jobs)
+pub logged_changed : (n : ℕ) (v : View) (held : List HeldShard) (m : Map) (order later : List Change) (jobs more : List Job) → AreHeld n v held m → AreLogged n held order jobs → (j : ℕ) (h new : HeldShard) → slice_get held j ≡ Some h → new.stripe ≡ h.stripe
+    → new.shard.owed ≡ owed_on n h.stripe more → ((k : ℕ) → k ≢ h.stripe → owed_on n k more ≡ owed_on n k jobs)
     → map (at_place (stripes_in held)) (reverse later) ≡ map (of_job n) more → AreLogged n (set held j new) later more
 logged_changed n v held m order later jobs more p s j h new at same owed still ordered = record {
   owed = λ i other there. ⊎_elim
-      (λ (t : (i ≡ j) × (new ≡ other)). subst (λ (y : HeldPart). y.part.owed ≡ owed_on n y.stripe more) t.1 (owed ∙ ap (λ (k : ℕ). owed_on n k more) (sym same)))
+      (λ (t : (i ≡ j) × (new ≡ other)). subst (λ (y : HeldShard). y.shard.owed ≡ owed_on n y.stripe more) t.1 (owed ∙ ap (λ (k : ℕ). owed_on n k more) (sym same)))
       (λ (t : (i ≢ j) × (slice_get held i ≡ Some other)). s.owed i other t.1
       ∙ sym (still other.stripe (λ in_h. t.0 (p.apart i j h.stripe (stripe_at held i other t.1 ∙ ap (λ (x : ℕ). Some x) in_h) (stripe_at held j h at))))) (set_place held j i new other there);
   ordered = ap (λ (l : List ℕ). map (at_place l) (reverse later)) (stripes_set held j h new at same) ∙ ordered;
@@ -285,7 +285,7 @@ after_here c m (Take k) s same = get-remove-here c s ∙ sym (get-remove-here m 
 after_here c m (Get k) s same = same
 after_here c m (PutIf k expected value) s same = put_if_same c m s k value _ _ (ap (λ (o : Option ℕ). option_eq nat_eq o expected) same) same
 
--- If a part and the map have the same values at the keys of the part's stripe, they still have
+-- If a shard and the map have the same values at the keys of the shard's stripe, they still have
 -- after an operation on both.
 sub_after : (n : ℕ) (c m : Map) (op : Op) (q : ℕ) → stripe_of n q ≡ stripe_of n (key_of op) → get c (q / n) ≡ get m q → get c (key_of op / n) ≡ get m (key_of op)
     → get (after c (under op (key_of op / n))) (q / n) ≡ get (after m op) q
@@ -293,16 +293,16 @@ sub_after n c m op q same at_q at_key = let s : ℕ = key_of op / n in dite (ℕ
     (λ (e : q ≡ key_of op). subst (λ (x : ℕ). get (after c (under op s)) (x / n) ≡ get (after m op) x) (sym e) (after_here c m op s at_key))
     (λ ne. get-after_other c (under op s) (q / n) (λ e. sub_apart n q (key_of op) same ne (e ∙ under_key op s)) ∙ at_q ∙ sym (get-after_other m op q ne))
 
-pub parts_noted : (n : ℕ) (v : View) (held : List HeldPart) (m : Map) → AreHeld n v held m → (j : ℕ) (h : HeldPart) (part : PartAt) (op : Op) (reply : Option ℕ) → slice_get held j ≡ Some h → h.stripe ≡ stripe_of n (key_of op)
-    → Does h.part part (under op (key_of op / n)) reply → AreHeld n v (set held j (record { stripe = h.stripe; part = part })) (after m op)
-parts_noted n v held m s j h part op reply at in_k does = parts_changed n v held m (after m op) s j h (record { stripe = h.stripe; part = part }) at refl
-    (λ q in_h. ap (λ (c : Map). get c (q / n)) does.content_is ∙ sub_after n h.part.content m op q (in_h ∙ in_k) (s.fits j h at q in_h) (s.fits j h at (key_of op) (sym in_k)))
+pub shards_noted : (n : ℕ) (v : View) (held : List HeldShard) (m : Map) → AreHeld n v held m → (j : ℕ) (h : HeldShard) (shard : ShardAt) (op : Op) (reply : Option ℕ) → slice_get held j ≡ Some h → h.stripe ≡ stripe_of n (key_of op)
+    → Does h.shard shard (under op (key_of op / n)) reply → AreHeld n v (set held j (record { stripe = h.stripe; shard = shard })) (after m op)
+shards_noted n v held m s j h shard op reply at in_k does = shards_changed n v held m (after m op) s j h (record { stripe = h.stripe; shard = shard }) at refl
+    (λ q in_h. ap (λ (c : Map). get c (q / n)) does.content_is ∙ sub_after n h.shard.content m op q (in_h ∙ in_k) (s.fits j h at q in_h) (s.fits j h at (key_of op) (sym in_k)))
     (λ q out. get-after_other m op q (λ e. out (ap (stripe_of n) e ∙ sym in_k)))
 
--- The reply of an operation on a part is the value of the map at the operation's key.
-pub reply_right : (n : ℕ) (v : View) (held : List HeldPart) (m : Map) → AreHeld n v held m → (j : ℕ) (h : HeldPart) (part : PartAt) (op : Op) (reply : Option ℕ) → slice_get held j ≡ Some h → h.stripe ≡ stripe_of n (key_of op)
-    → Does h.part part (under op (key_of op / n)) reply → reply ≡ get m (key_of op)
-reply_right n v held m s j h part op reply at in_k does = does.reply_is ∙ ap (get h.part.content) (under_key op (key_of op / n)) ∙ s.fits j h at (key_of op) (sym in_k)
+-- The reply of an operation on a shard is the value of the map at the operation's key.
+pub reply_right : (n : ℕ) (v : View) (held : List HeldShard) (m : Map) → AreHeld n v held m → (j : ℕ) (h : HeldShard) (shard : ShardAt) (op : Op) (reply : Option ℕ) → slice_get held j ≡ Some h → h.stripe ≡ stripe_of n (key_of op)
+    → Does h.shard shard (under op (key_of op / n)) reply → reply ≡ get m (key_of op)
+reply_right n v held m s j h shard op reply at in_k does = does.reply_is ∙ ap (get h.shard.content) (under_key op (key_of op / n)) ∙ s.fits j h at (key_of op) (sym in_k)
 
 owed_split : (b : Bool) (n k : ℕ) (job : Job) (jobs : List Job) → stripe_of n job.0 ≢ k → owed_on n k (cond b (job ∷ jobs) jobs) ≡ owed_on n k jobs
 owed_split true n k job jobs ne = owed_other n k job jobs ne
@@ -318,65 +318,65 @@ order_grows true n j ks order job jobs at e = ap (map (at_place ks)) (reverse-ap
     ∙ ap (λ (s : Spot). s ∷ map (at_place ks) (reverse order)) (spot_same _ _ _ _ at refl) ∙ ap (λ (l : List Spot). of_job n job ∷ l) e
 order_grows false n j ks order job jobs at e = e
 
-pub logged_noted : (n : ℕ) (v : View) (held : List HeldPart) (m : Map) (order : List Change) (jobs : List Job) → AreHeld n v held m → AreLogged n held order jobs → (j : ℕ) (h : HeldPart) (part : PartAt) (op : Op) (reply : Option ℕ) → slice_get held j ≡ Some h
-    → h.stripe ≡ stripe_of n (key_of op) → Does h.part part (under op (key_of op / n)) reply
-    → AreLogged n (set held j (record { stripe = h.stripe; part = part })) (cond (changes op reply) (order ++ (j, key_of op / n, reply) ∷ []) order) (cond (changes op reply) ((key_of op, reply) ∷ jobs) jobs)
-logged_noted n v held m order jobs p s j h part op reply at in_k does = let b : Bool = changes op reply in let job : Job = (key_of op, reply) in let sub : ℕ = key_of op / n in
-    logged_changed n v held m order (cond b (order ++ (j, sub, reply) ∷ []) order) jobs (cond b (job ∷ jobs) jobs) p s j h (record { stripe = h.stripe; part = part }) at refl
-    (does.owed_is ∙ ap (λ (c : Bool). cond c (h.part.owed + 1) h.part.owed) (under_changes op sub reply)
+pub logged_noted : (n : ℕ) (v : View) (held : List HeldShard) (m : Map) (order : List Change) (jobs : List Job) → AreHeld n v held m → AreLogged n held order jobs → (j : ℕ) (h : HeldShard) (shard : ShardAt) (op : Op) (reply : Option ℕ) → slice_get held j ≡ Some h
+    → h.stripe ≡ stripe_of n (key_of op) → Does h.shard shard (under op (key_of op / n)) reply
+    → AreLogged n (set held j (record { stripe = h.stripe; shard = shard })) (cond (changes op reply) (order ++ (j, key_of op / n, reply) ∷ []) order) (cond (changes op reply) ((key_of op, reply) ∷ jobs) jobs)
+logged_noted n v held m order jobs p s j h shard op reply at in_k does = let b : Bool = changes op reply in let job : Job = (key_of op, reply) in let sub : ℕ = key_of op / n in
+    logged_changed n v held m order (cond b (order ++ (j, sub, reply) ∷ []) order) jobs (cond b (job ∷ jobs) jobs) p s j h (record { stripe = h.stripe; shard = shard }) at refl
+    (does.owed_is ∙ ap (λ (c : Bool). cond c (h.shard.owed + 1) h.shard.owed) (under_changes op sub reply)
     ∙ ap (λ (x : ℕ). cond b (x + 1) x) (s.owed j h at) ∙ owed_grows b n h.stripe job jobs (sym in_k))
     (λ k ne. owed_split b n k job jobs (λ e. ne (sym e ∙ sym in_k)))
     (order_grows b n j (stripes_in held) order job jobs (stripe_at held j h at ∙ ap (λ (x : ℕ). Some x) in_k) s.ordered)
 
 -- If `AreLogged` holds, the change at the end of `order` is the newest change of `jobs`.
-pub newest : (n : ℕ) (held : List HeldPart) (order : List Change) (change : Change) (jobs : List Job) → AreLogged n held (order ++ change ∷ []) jobs → Newest n change (stripes_in held) (reverse order) jobs
+pub newest : (n : ℕ) (held : List HeldShard) (order : List Change) (change : Change) (jobs : List Job) → AreLogged n held (order ++ change ∷ []) jobs → Newest n change (stripes_in held) (reverse order) jobs
 newest n held order change jobs s = newest_of n change (stripes_in held) (reverse order) jobs (ap (map (at_place (stripes_in held))) (sym (reverse-append order (change ∷ []))) ∙ s.ordered)
 
--- If the newest change was made in the part `h`, the number of changes that this part can take back
+-- If the newest change was made in the shard `h`, the number of changes that this shard can take back
 -- is one more than the number of older changes in its stripe.
-pub newest_owed : (n : ℕ) (held : List HeldPart) (order : List Change) (change : Change) (jobs : List Job) (s : AreLogged n held (order ++ change ∷ []) jobs) (h : HeldPart) → slice_get held change.0 ≡ Some h
-    → let new = newest n held order change jobs s in h.part.owed ≡ owed_on n h.stripe new.older + 1
+pub newest_owed : (n : ℕ) (held : List HeldShard) (order : List Change) (change : Change) (jobs : List Job) (s : AreLogged n held (order ++ change ∷ []) jobs) (h : HeldShard) → slice_get held change.0 ≡ Some h
+    → let new = newest n held order change jobs s in h.shard.owed ≡ owed_on n h.stripe new.older + 1
 newest_owed n held order change jobs s h at = let new = newest n held order change jobs s in
     let in_k : stripe_of n new.job.0 ≡ h.stripe = same_Some _ _ (sym new.place_is ∙ stripe_at held change.0 h at) in
     s.owed change.0 h at ∙ ap (owed_on n h.stripe) new.jobs_are ∙ owed_mine n h.stripe new.job new.older in_k
 
--- If a change is taken back in the part of a held stripe, and also in the map, the parts still fit
+-- If a change is taken back in the shard of a held stripe, and also in the map, the shards still fit
 -- the map.
-pub parts_back : (n : ℕ) (v : View) (held : List HeldPart) (m : Map) → AreHeld n v held m → (j : ℕ) (h : HeldPart) (part : PartAt) (job : Job) → slice_get held j ≡ Some h → h.stripe ≡ stripe_of n job.0
-    → TakesBack h.part part (job.0 / n) job.1 → AreHeld n v (set held j (record { stripe = h.stripe; part = part })) (set_at m job.0 job.1)
-parts_back n v held m s j h part job at in_k back = parts_changed n v held m (set_at m job.0 job.1) s j h (record { stripe = h.stripe; part = part }) at refl
-    (λ q in_h. ap (λ (c : Map). get c (q / n)) back.content_is ∙ get-set_at h.part.content (job.0 / n) job.1 (q / n) ∙ dite (ℕ_discrete q job.0)
-    (λ (e : q ≡ job.0). ap (λ b. cond b job.1 (get h.part.content (q / n))) (eq-eqb (q / n) (job.0 / n) (ap (λ (x : ℕ). x / n) e)) ∙ sym (get-set_at m job.0 job.1 q ∙ ap (λ b. cond b job.1 (get m q)) (eq-eqb q job.0 e)))
-    (λ ne. ap (λ b. cond b job.1 (get h.part.content (q / n))) (ne_eqb (q / n) (job.0 / n) (sub_apart n q job.0 (in_h ∙ in_k) ne)) ∙ s.fits j h at q in_h ∙ sym (get-set_at m job.0 job.1 q ∙ ap (λ b. cond b job.1 (get m q)) (ne_eqb q job.0 ne))))
+pub shards_back : (n : ℕ) (v : View) (held : List HeldShard) (m : Map) → AreHeld n v held m → (j : ℕ) (h : HeldShard) (shard : ShardAt) (job : Job) → slice_get held j ≡ Some h → h.stripe ≡ stripe_of n job.0
+    → TakesBack h.shard shard (job.0 / n) job.1 → AreHeld n v (set held j (record { stripe = h.stripe; shard = shard })) (set_at m job.0 job.1)
+shards_back n v held m s j h shard job at in_k back = shards_changed n v held m (set_at m job.0 job.1) s j h (record { stripe = h.stripe; shard = shard }) at refl
+    (λ q in_h. ap (λ (c : Map). get c (q / n)) back.content_is ∙ get-set_at h.shard.content (job.0 / n) job.1 (q / n) ∙ dite (ℕ_discrete q job.0)
+    (λ (e : q ≡ job.0). ap (λ b. cond b job.1 (get h.shard.content (q / n))) (eq-eqb (q / n) (job.0 / n) (ap (λ (x : ℕ). x / n) e)) ∙ sym (get-set_at m job.0 job.1 q ∙ ap (λ b. cond b job.1 (get m q)) (eq-eqb q job.0 e)))
+    (λ ne. ap (λ b. cond b job.1 (get h.shard.content (q / n))) (ne_eqb (q / n) (job.0 / n) (sub_apart n q job.0 (in_h ∙ in_k) ne)) ∙ s.fits j h at q in_h ∙ sym (get-set_at m job.0 job.1 q ∙ ap (λ b. cond b job.1 (get m q)) (ne_eqb q job.0 ne))))
     (λ q out. get-set_at m job.0 job.1 q ∙ ap (λ b. cond b job.1 (get m q)) (ne_eqb q job.0 (λ e. out (ap (stripe_of n) e ∙ sym in_k))))
 
-pub logged_back : (n : ℕ) (v : View) (held : List HeldPart) (m : Map) (order : List Change) (jobs : List Job) → AreHeld n v held m → (change : Change) (s : AreLogged n held (order ++ change ∷ []) jobs) (h : HeldPart) (part : PartAt) → slice_get held change.0 ≡ Some h
-    → let new = newest n held order change jobs s in part.owed ≡ owed_on n h.stripe new.older → AreLogged n (set held change.0 (record { stripe = h.stripe; part = part })) order new.older
-logged_back n v held m order jobs p change s h part at owed = let new = newest n held order change jobs s in
+pub logged_back : (n : ℕ) (v : View) (held : List HeldShard) (m : Map) (order : List Change) (jobs : List Job) → AreHeld n v held m → (change : Change) (s : AreLogged n held (order ++ change ∷ []) jobs) (h : HeldShard) (shard : ShardAt) → slice_get held change.0 ≡ Some h
+    → let new = newest n held order change jobs s in shard.owed ≡ owed_on n h.stripe new.older → AreLogged n (set held change.0 (record { stripe = h.stripe; shard = shard })) order new.older
+logged_back n v held m order jobs p change s h shard at owed = let new = newest n held order change jobs s in
     let in_k : stripe_of n new.job.0 ≡ h.stripe = same_Some _ _ (sym new.place_is ∙ stripe_at held change.0 h at) in
-    logged_changed n v held m (order ++ change ∷ []) order jobs new.older p s change.0 h (record { stripe = h.stripe; part = part }) at refl owed
+    logged_changed n v held m (order ++ change ∷ []) order jobs new.older p s change.0 h (record { stripe = h.stripe; shard = shard }) at refl owed
     (λ k ne. sym (ap (owed_on n k) new.jobs_are ∙ owed_other n k new.job new.older (λ e. ne (sym e ∙ in_k)))) new.ordered
 
--- If `AreHeld` holds for a list of parts, the seat holds the stripe of the last part.
-pub newest_stripe : (n : ℕ) (v : View) (held : List HeldPart) (m : Map) (h : HeldPart) → AreHeld n v (held ++ h ∷ []) m → Holds v h.stripe
+-- If `AreHeld` holds for a list of shards, the seat holds the stripe of the last shard.
+pub newest_stripe : (n : ℕ) (v : View) (held : List HeldShard) (m : Map) (h : HeldShard) → AreHeld n v (held ++ h ∷ []) m → Holds v h.stripe
 newest_stripe n v held m h s = holds_at n v (held ++ h ∷ []) m s (length held) h.stripe (stripe_at (held ++ h ∷ []) (length held) h (push_last held h))
 
-pub newest_fits : (n : ℕ) (v : View) (held : List HeldPart) (m : Map) (h : HeldPart) → AreHeld n v (held ++ h ∷ []) m
-    → IsPartOf n h.stripe h.part m
+pub newest_fits : (n : ℕ) (v : View) (held : List HeldShard) (m : Map) (h : HeldShard) → AreHeld n v (held ++ h ∷ []) m
+    → IsShardOf n h.stripe h.shard m
 newest_fits n v held m h s = s.fits (length held) h (push_last held h)
 
-pub parts_given : (n : ℕ) (v : View) (held : List HeldPart) (m : Map) (h : HeldPart) → AreHeld n v (held ++ h ∷ []) m → AreHeld n (lost v h.stripe) held m
-parts_given n v held m h s = let ks : List ℕ = stripes_in held in let is = stripes_push held h in record {
+pub shards_given : (n : ℕ) (v : View) (held : List HeldShard) (m : Map) (h : HeldShard) → AreHeld n v (held ++ h ∷ []) m → AreHeld n (lost v h.stripe) held m
+shards_given n v held m h s = let ks : List ℕ = stripes_in held in let is = stripes_push held h in record {
   kept = ap (removed h.stripe) (s.kept ∙ ap reverse is ∙ reverse-append ks (h.stripe ∷ [])) ∙ removed_same h.stripe (reverse ks);
   apart = λ i j stripe a b. s.apart i j stripe (ap (λ (l : List ℕ). slice_get l i) is ∙ push_old ks h.stripe stripe i a) (ap (λ (l : List ℕ). slice_get l j) is ∙ push_old ks h.stripe stripe j b);
   fits = λ i other at. s.fits i other (push_old held h other i at);
 }
 
--- If a seat holds no stripe, `AreHeld` holds for the empty list of parts.
-pub parts_none : (n : ℕ) (v : View) (m : Map) → v.held ≡ [] → AreHeld n v [] m
-parts_none n v m is = record { kept = is; apart = λ i j k a b. absurd (none-some k a); fits = λ i h at. absurd (none-some h at) }
+-- If a seat holds no stripe, `AreHeld` holds for the empty list of shards.
+pub shards_none : (n : ℕ) (v : View) (m : Map) → v.held ≡ [] → AreHeld n v [] m
+shards_none n v m is = record { kept = is; apart = λ i j k a b. absurd (none-some k a); fits = λ i h at. absurd (none-some h at) }
 
-pub logged_none : (n : ℕ) (held : List HeldPart) → ((i : ℕ) (h : HeldPart) → slice_get held i ≡ Some h → ⊥) → AreLogged n held [] []
+pub logged_none : (n : ℕ) (held : List HeldShard) → ((i : ℕ) (h : HeldShard) → slice_get held i ≡ Some h → ⊥) → AreLogged n held [] []
 logged_none n held none = record { owed = λ i h at. absurd (none i h at); ordered = refl }
 
 -- If the history `log` extends `seen` by the entries `es` (`Extends`), and all of these entries are

@@ -8,41 +8,41 @@ use Rattle.striped_map.specs.Apart.{Listed}
 use Rattle.striped_map.specs.declared.record.Record.{Record}
 use Rattle.striped_map.specs.Steps.{marks}
 use Rattle.striped_map.specs.Records.{spread}
-use Rattle.striped_map.specs.Gathered.{HasParts, is_taken}
+use Rattle.striped_map.specs.Gathered.{HasRecords, is_taken}
 use Rattle.striped_map.proofs.RuleSteps.{nothing_at}
-use Rattle.striped_map.proofs.Merging.{Parts}
+use Rattle.striped_map.proofs.Merging.{Theirs}
 
-abbrev Part : Type 0
-Part = Option (Listed Record)
+abbrev Their : Type 0
+Their = Option (Listed Record)
 
-empty_at : (n c : ℕ) → get_or (replicate n (let p : Part = None in p)) c None ≡ None
+empty_at : (n c : ℕ) → get_or (replicate n (let p : Their = None in p)) c None ≡ None
 empty_at zero c = refl
 empty_at (suc n) zero = refl
 empty_at (suc n) (suc c) = empty_at n c
 
 -- No caller is merged at the start.
-pub none_merged : (n : ℕ) (parts : Parts) → parts ≡ replicate n None → HasParts [] parts
-none_merged n parts is =
-    let none : (c : ℕ) → get_or parts c None ≡ None = λ c. ap (λ (l : Parts). get_or l c None) is ∙ empty_at n c in
+pub none_merged : (n : ℕ) (theirs : Theirs) → theirs ≡ replicate n None → HasRecords [] theirs
+none_merged n theirs is =
+    let none : (c : ℕ) → get_or theirs c None ≡ None = λ c. ap (λ (l : Theirs). get_or l c None) is ∙ empty_at n c in
     record { kept = λ j r has. absurd (nothing_at j r has); marked = λ j r has. absurd (nothing_at j r has); made = λ c some. absurd (some (none c)) }
 
 -- One more caller is merged, with the number `number`.
-module _ (retired : List (ℕ × List Entry)) (parts : Parts) (number : ℕ) (seen : List Entry) (records : Listed Record) (some : 0 < number) (room : number - 1 < length parts) where
-  abbrev after : Parts
-  after = set parts (number - 1) (Some records)
+module _ (retired : List (ℕ × List Entry)) (theirs : Theirs) (number : ℕ) (seen : List Entry) (records : Listed Record) (some : 0 < number) (room : number - 1 < length theirs) where
+  abbrev after : Theirs
+  after = set theirs (number - 1) (Some records)
 
   here : get_or after (number - 1) None ≡ Some records
-  here = get_or-set_same parts (number - 1) (Some records) None room
+  here = get_or-set_same theirs (number - 1) (Some records) None room
 
-  there : (c : ℕ) → c ≢ number - 1 → get_or after c None ≡ get_or parts c None
-  there c ne = get_or-set_other parts (number - 1) c (Some records) None (λ z. ne (omega arith))
+  there : (c : ℕ) → c ≢ number - 1 → get_or after c None ≡ get_or theirs c None
+  there c ne = get_or-set_other theirs (number - 1) c (Some records) None (λ z. ne (omega arith))
 
-  now_kept : ((j : ℕ) (r : ℕ × List Entry) → slice_get retired j ≡ Some r → (r.0 ≢ number) × (0 < r.0)) → HasParts retired parts → (j : ℕ) (r : ℕ × List Entry) → slice_get ((number, seen) ∷ retired) j ≡ Some r → get_or after (r.0 - 1) None ≢ None
+  now_kept : ((j : ℕ) (r : ℕ × List Entry) → slice_get retired j ≡ Some r → (r.0 ≢ number) × (0 < r.0)) → HasRecords retired theirs → (j : ℕ) (r : ℕ × List Entry) → slice_get ((number, seen) ∷ retired) j ≡ Some r → get_or after (r.0 - 1) None ≢ None
   now_kept apart has zero r at = subst (λ (x : ℕ × List Entry). get_or after (x.0 - 1) None ≢ None) (same_Some _ r at) (λ none. absurd (cc (sym here ∙ none)))
   now_kept apart has (suc j) r at = λ none. let a = apart j r at in let ne : r.0 ≢ number = a.0 in let pos : 0 < r.0 = a.1 in
       has.kept j r at (sym (there (r.0 - 1) (λ e. ne (omega arith))) ∙ none)
 
-  now_marked : ((j : ℕ) (r : ℕ × List Entry) → slice_get retired j ≡ Some r → (r.0 ≢ number) × (0 < r.0)) → marks number 0 seen ≡ spread number records.items → HasParts retired parts
+  now_marked : ((j : ℕ) (r : ℕ × List Entry) → slice_get retired j ≡ Some r → (r.0 ≢ number) × (0 < r.0)) → marks number 0 seen ≡ spread number records.items → HasRecords retired theirs
       → (j : ℕ) (r : ℕ × List Entry) → slice_get ((number, seen) ∷ retired) j ≡ Some r → (rs : Listed Record) → get_or after (r.0 - 1) None ≡ Some rs → marks r.0 0 r.1 ≡ spread r.0 rs.items
   now_marked apart marked has zero r at rs is =
       let one = same_Some _ r at in let same : records ≡ rs = same_Some records rs (sym here ∙ ap (λ (x : ℕ × List Entry). get_or after (x.0 - 1) None) one ∙ is) in
@@ -50,7 +50,7 @@ module _ (retired : List (ℕ × List Entry)) (parts : Parts) (number : ℕ) (se
   now_marked apart marked has (suc j) r at rs is = let a = apart j r at in let ne : r.0 ≢ number = a.0 in let pos : 0 < r.0 = a.1 in
       has.marked j r at rs (sym (there (r.0 - 1) (λ e. ne (omega arith))) ∙ is)
 
-  pub one_merged : ((j : ℕ) (r : ℕ × List Entry) → slice_get retired j ≡ Some r → (r.0 ≢ number) × (0 < r.0)) → marks number 0 seen ≡ spread number records.items → HasParts retired parts → HasParts ((number, seen) ∷ retired) after
+  pub one_merged : ((j : ℕ) (r : ℕ × List Entry) → slice_get retired j ≡ Some r → (r.0 ≢ number) × (0 < r.0)) → marks number 0 seen ≡ spread number records.items → HasRecords retired theirs → HasRecords ((number, seen) ∷ retired) after
   one_merged apart marked has = record {
     kept = now_kept apart has;
     marked = now_marked apart marked has;

@@ -105,14 +105,14 @@ count_more rs r count more before is =
     omega arith
 
 -- How many entries the records of one more caller add.
-pub parts_more : (parts : List (Option (Listed Record))) (part : Option (Listed Record)) → entries_in (parts ++ part ∷ []) ≡ entries_in parts + length (spread 0 (records_of part))
-parts_more [] part = omega arith
-parts_more (p ∷ parts) part = let more = parts_more parts part in omega arith
+pub records_more : (theirs : List (Option (Listed Record))) (their : Option (Listed Record)) → entries_in (theirs ++ their ∷ []) ≡ entries_in theirs + length (spread 0 (records_of their))
+records_more [] their = omega arith
+records_more (p ∷ theirs) their = let more = records_more theirs their in omega arith
 
 -- The records of one more caller are written.
-pub written_more : (c : ℕ) (t : List Entry) (parts : List (Option (Listed Record))) (part : Option (Listed Record)) → written_from c t (parts ++ part ∷ []) ≡ written (written_from c t parts) (spread (c + length parts) (records_of part))
-written_more c t [] part = ap (λ (k : ℕ). written t (spread k (records_of part))) (omega arith)
-written_more c t (p ∷ parts) part = written_more (c + 1) (written t (spread c (records_of p))) parts part ∙ ap (λ (k : ℕ). written (written_from (c + 1) (written t (spread c (records_of p))) parts) (spread k (records_of part))) (omega arith)
+pub written_more : (c : ℕ) (t : List Entry) (theirs : List (Option (Listed Record))) (their : Option (Listed Record)) → written_from c t (theirs ++ their ∷ []) ≡ written (written_from c t theirs) (spread (c + length theirs) (records_of their))
+written_more c t [] their = ap (λ (k : ℕ). written t (spread k (records_of their))) (omega arith)
+written_more c t (p ∷ theirs) their = written_more (c + 1) (written t (spread c (records_of p))) theirs their ∙ ap (λ (k : ℕ). written (written_from (c + 1) (written t (spread c (records_of p))) theirs) (spread k (records_of their))) (omega arith)
 
 -- The record of the end of a transaction stands for its entries.
 pub end_told : (v : View) (what : Addition) (c n : ℕ) → IsEnd v what → v.number ≡ c → length (due v) ≡ n → entries_of v what ≡ told_by c (told_for what n)

@@ -7,7 +7,7 @@ use Rattle.txn_words.specs.Kinds.{is_commit}
 use Rattle.txn_words.specs.Map.{get}
 use Rattle.txn_trace.specs.Now.{now}
 use Rattle.txn_trace.specs.Locks.{asks_in, stripe_of, holder_of}
-use Rattle.txn_words.specs.Shape.{own, how_many, seat_after}
+use Rattle.txn_words.specs.Shape.{own, how_many, stance_after}
 use Rattle.txn_trace.specs.Log.{log_of}
 use Rattle.txn_trace.specs.Legal.{IsLegal}
 use Rattle.striped_map.specs.declared.view.View.{View}
@@ -44,12 +44,12 @@ pub record GoesOnFrom (stripes : ℕ) (v : View) (log : List Entry) : Type 0 whe
 pub record Lands (stripes c : ℕ) (P : ℕ → Type 0) (commits_more : ℕ) (log es : List Entry)
     (left : StateAfter) : Type 0 where
   pub grows : Grows stripes c P commits_more log es
-  pub seat_is : seat_after (own c (log ++ es)) ≡ Some left.seat
+  pub stance_is : stance_after (own c (log ++ es)) ≡ Some left.stance
   pub log_is : log_of c (log ++ es) ≡ left.log
   pub have : (key : ℕ) → P (stripe_of stripes key) → get (now (log ++ es)) key ≡ get left.map key
 
 -- The entries may be added to any history that continues what the seat has seen (`GoesOnFrom`).
--- After them, the seat is in the state `left`.
+-- After them, the stance is in the state `left`.
 abbrev pub MayAdd : ℕ → View → List Entry → StateAfter → Type 0
 MayAdd stripes v es left = (log : List Entry) → GoesOnFrom stripes v log
     → Lands stripes v.number (Holds v) 0 log es left

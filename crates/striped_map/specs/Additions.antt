@@ -7,7 +7,7 @@ use Rattle.txn_trace.specs.Now.{now}
 use Rattle.striped_map.specs.declared.view.View.{View}
 use Rattle.striped_map.specs.declared.addition.Addition.{Addition}
 use Rattle.striped_map.specs.declared.addition.Addition.TheVariants.{Note, Save, Back, Abort, Yield}
-use Rattle.striped_map.specs.Steps.{StateAfter, StepEffect, added, counted, at_end, noting, saving, returning, seat_of, rolled_back, undoing}
+use Rattle.striped_map.specs.Steps.{StateAfter, StepEffect, added, counted, at_end, noting, saving, returning, stance_of, rolled_back, undoing}
 
 -- The changes that the caller with this view can take back, the newest first.
 abbrev pub due : View → List (ℕ × Option ℕ)
@@ -15,7 +15,7 @@ due v = log_of v.number v.seen
 
 -- The changes of the caller since a level's savepoint.
 abbrev pub above : ℕ → View → List (ℕ × Option ℕ)
-above level v = take (length (due v) - slice_index (seat_of v).kept level) (due v)
+above level v = take (length (due v) - slice_index (stance_of v).kept level) (due v)
 
 -- The entries of an addition.
 abbrev pub entries_of : View → Addition → List Entry
@@ -30,10 +30,10 @@ entries_of v (Yield op holder) =
 
 -- The state after an addition.
 abbrev pub left_of : View → Addition → StateAfter
-left_of v (Note op reply) = noting v (seat_of v) op reply
-left_of v Save = saving v (seat_of v)
+left_of v (Note op reply) = noting v (stance_of v) op reply
+left_of v Save = saving v (stance_of v)
 left_of v (Back level count) =
-    returning v (seat_of v) level (take count (due v)) (drop count (due v))
+    returning v (stance_of v) level (take count (due v)) (drop count (due v))
 left_of v Abort = at_end (rolled_back (now v.seen) (due v))
 left_of v (Yield op holder) = at_end (rolled_back (now v.seen) (due v))
 

@@ -19,7 +19,7 @@ use Rattle.txn_words.specs.declared.stop.Stop.TheVariants.{Busy, Refused}
 use Rattle.striped_map.specs.Rule.{Holds, most}
 use Rattle.striped_map.specs.Additions.{due, above}
 use Rattle.striped_map.specs.Handling.{GainsAtMost, HoldsAllOf, KeepsHeld}
-use Rattle.striped_map.specs.Steps.{Extends, seat_of, told_of, undoing}
+use Rattle.striped_map.specs.Steps.{Extends, stance_of, told_of, undoing}
 use Rattle.striped_map.specs.Seats.{keep_of, known, stripes_of}
 
 -- The caller's number.
@@ -40,7 +40,7 @@ stripes_held c = (known c.hand.seat).held
 
 -- How many savepoints the caller's transaction has.
 abbrev pub levels : Caller → ℕ
-levels c = length (seat_of (known c.hand.seat)).kept - 1
+levels c = length (stance_of (known c.hand.seat)).kept - 1
 
 -- The changes of the caller's transaction, the newest first (`changes_made`), and those of them
 -- that were made since a level's savepoint (`changes_above`).

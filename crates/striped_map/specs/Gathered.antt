@@ -38,16 +38,16 @@ records_of (Some rs) = rs.items
 -- The list, with the entries of the records of the callers from `c` on at their positions.
 abbrev pub written_from : ℕ → List Entry → List (Option (Listed Record)) → List Entry
 written_from c t [] = t
-written_from c t (part ∷ parts) = written_from (c + 1) (written t (spread c (records_of part))) parts
+written_from c t (their ∷ theirs) = written_from (c + 1) (written t (spread c (records_of their))) theirs
 
 -- How many entries these records stand for.
 abbrev pub entries_in : List (Option (Listed Record)) → ℕ
 entries_in [] = 0
-entries_in (part ∷ parts) = length (spread 0 (records_of part)) + entries_in parts
+entries_in (their ∷ theirs) = length (spread 0 (records_of their)) + entries_in theirs
 
 -- The entries that the records of all callers stand for, in order and numbered.
 abbrev pub merged : Entry → List (Option (Listed Record)) → List Entry
-merged blank parts = numbered 0 0 (written_from 0 (replicate (entries_in parts) blank) parts)
+merged blank theirs = numbered 0 0 (written_from 0 (replicate (entries_in theirs) blank) theirs)
 
 -- Whether a caller with this number was merged.
 abbrev pub is_taken : ℕ → List (ℕ × List Entry) → Bool
@@ -56,11 +56,11 @@ is_taken c (r ∷ rs) = cond (r.0 == c) true (is_taken c rs)
 
 -- The list has the records of exactly the merged callers, each at the place that is one less than
 -- the caller's number. The records stand for the caller's entries in the history that it had seen.
-pub record HasParts (retired : List (ℕ × List Entry)) (parts : List (Option (Listed Record)))
+pub record HasRecords (retired : List (ℕ × List Entry)) (theirs : List (Option (Listed Record)))
     : Type 0 where
   pub kept : (j : ℕ) (r : ℕ × List Entry) → slice_get retired j ≡ Some r
-      → get_or parts (r.0 - 1) None ≢ None
+      → get_or theirs (r.0 - 1) None ≢ None
   pub marked : (j : ℕ) (r : ℕ × List Entry) → slice_get retired j ≡ Some r
-      → (rs : Listed Record) → get_or parts (r.0 - 1) None ≡ Some rs
+      → (rs : Listed Record) → get_or theirs (r.0 - 1) None ≡ Some rs
       → marks r.0 0 r.1 ≡ spread r.0 rs.items
-  pub made : (c : ℕ) → get_or parts c None ≢ None → is_taken (c + 1) retired ≡ true
+  pub made : (c : ℕ) → get_or theirs c None ≢ None → is_taken (c + 1) retired ≡ true

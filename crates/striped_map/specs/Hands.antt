@@ -7,7 +7,7 @@ use Rattle.txn_words.specs.declared.op.Op.{Op}
 use Rattle.txn_words.specs.declared.op.Op.TheVariants.{Get}
 use Rattle.txn_words.specs.declared.refusal.Refusal.TheVariants.{NoMemory}
 use Rattle.txn_trace.specs.Now.{now}
-use Rattle.txn_words.specs.declared.seat.Phase.TheVariants.{Closed, Opened}
+use Rattle.txn_words.specs.declared.stance.Phase.TheVariants.{Closed, Opened}
 use Rattle.striped_map.specs.declared.hand.Hand.{Hand}
 use Rattle.striped_map.specs.declared.keep.Keep.TheVariants.{Entries}
 use Rattle.striped_map.specs.declared.map.StripedMap.{StripedMap}

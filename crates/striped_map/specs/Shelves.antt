@@ -5,8 +5,8 @@ use lib.ListN.{get_elem?}
 use Rattle.atomic_table.specs.Seated.{TableId}
 use Rattle.atomic_table.specs.Table.{Me, State, Step}
 use Rattle.atomic_table.specs.declared.shared.Seat.{Seat}
-use Rattle.txn_words.specs.declared.seat.Phase.TheVariants.{Closed}
-use Rattle.stripe_part.specs.PartAt.{PartAt}
+use Rattle.txn_words.specs.declared.stance.Phase.TheVariants.{Closed}
+use Rattle.stripe_shard.specs.ShardAt.{ShardAt}
 use Rattle.striped_map.specs.declared.keep.Keep.{Keep}
 use Rattle.striped_map.specs.declared.seat.MapSeat.{MapSeat}
 use Rattle.striped_map.specs.declared.view.View.{View}
@@ -23,7 +23,7 @@ pub record IsOver (table : TableId) (keep : Keep) (seat : MapSeat) : Type 0 wher
 
 -- A seat of the map to which a shelf belongs.
 abbrev pub Like : Type 0
-Like = Seat PartAt View
+Like = Seat ShardAt View
 
 -- What may lie at a place: nothing, or the seat with this number, whose caller has ended.
 abbrev pub MayLie : Like → ℕ → Option MapSeat → Type 0

@@ -84,12 +84,12 @@ fn put_records(table: &mut Vec<Entry>, number: u64, records: &Records)
 }
 
 /// How many entries the records of all callers stand for, or `None` if 64 bits cannot count them.
-fn count_all(parts: &Vec<Option<Records>>) -> Option<usize>
-    ensures { IfSome result (λ count. count ≡ entries_in parts.now.items) }
+fn count_all(theirs: &Vec<Option<Records>>) -> Option<usize>
+    ensures { IfSome result (λ count. count ≡ entries_in theirs.now.items) }
 {
     let mut count: usize = 0;
-    for place in 0..parts.len() {
-        if let Some(records) = &parts[place] {
+    for place in 0..theirs.len() {
+        if let Some(records) = &theirs[place] {
             let more = count_of(records)?;
             count = count.checked_add(more)?;
         }
@@ -134,11 +134,11 @@ fn number_all(alloc: Global, table: &Vec<Entry>) -> Result<Vec<Entry>, AllocErro
 }
 
 /// How many entries the records of the host and of all callers stand for.
-fn count_both(own: &Records, parts: &Vec<Option<Records>>) -> Option<usize>
-    ensures { IfSome result (λ count. count ≡ entries_in (Some own.now ∷ parts.now.items)) }
+fn count_both(own: &Records, theirs: &Vec<Option<Records>>) -> Option<usize>
+    ensures { IfSome result (λ count. count ≡ entries_in (Some own.now ∷ theirs.now.items)) }
 {
     let first = count_of(own)?;
-    let others = count_all(parts)?;
+    let others = count_all(theirs)?;
     let count = first.checked_add(others)?;
     Some(count)
 }
@@ -148,19 +148,19 @@ fn count_both(own: &Records, parts: &Vec<Option<Records>>) -> Option<usize>
 pub(crate) fn history_of(
     alloc: Global,
     own: &Records,
-    parts: &Vec<Option<Records>>,
+    theirs: &Vec<Option<Records>>,
 ) -> Result<Vec<Entry>, AllocError>
     ensures ok { IfOk result (λ all. all.items
-        ≡ merged (Aborted 0) (Some own.now ∷ parts.now.items)) }
-    ensures few { OnOk result (entries_in (Some own.now ∷ parts.now.items) < 2 ^ 64) }
+        ≡ merged (Aborted 0) (Some own.now ∷ theirs.now.items)) }
+    ensures few { OnOk result (entries_in (Some own.now ∷ theirs.now.items) < 2 ^ 64) }
 {
-    let Some(count) = count_both(own, parts) else {
+    let Some(count) = count_both(own, theirs) else {
         return Err(AllocError);
     };
     let mut table = vec![in alloc; Entry::Aborted(0); count]?;
     put_records(&mut table, 0, own);
-    for place in 0..parts.len() {
-        if let Some(records) = &parts[place] {
+    for place in 0..theirs.len() {
+        if let Some(records) = &theirs[place] {
             put_records(&mut table, place as u64 + 1, records);
         }
     }

@@ -1,11 +1,11 @@
 //! A caller's hand: its seat, and the stripes, changes and levels of its transaction.
 //!
-//! The parts of the stripes that the hand holds stay in their slots. A method may be called only in
+//! The shards of the stripes that the hand holds stay in their slots. A method may be called only in
 //! the right phase of a transaction, which the hand does not test.
 ghost use Rattle.std.specs.Prelude.{◌≡◌, ◌≢◌, ℕ, ◌+◌, ◌-◌, ◌/◌, ◌<◌, ◌≤◌, ◌%◌, ◌^◌, [], ◌∷◌, IfOk, IfErr, IfSome, OnOk, OnErr, None, Some, true, slice_get, slice_index, length, take, drop};
 ghost use mathlib.Core.List.{IsPrefix};
 ghost use Rattle.txn_words.specs.declared.entry.Entry.TheVariants.{Began, Asked, Did, Saved, Leave, Returned, Committed};
-ghost use Rattle.txn_words.specs.declared.seat.Phase.TheVariants.{Closed, Opened};
+ghost use Rattle.txn_words.specs.declared.stance.Phase.TheVariants.{Closed, Opened};
 ghost use Rattle.txn_trace.specs.Locks.{stripe_of};
 ghost use Rattle.txn_words.specs.Map.{count_of, key_of};
 ghost use Rattle.txn_words.specs.declared.op.Op.TheVariants.{Get};
@@ -16,15 +16,15 @@ ghost use Rattle.txn_words.specs.declared.holder.Holder.TheVariants.{Begun};
 ghost use Rattle.txn_words.specs.Shape.{own};
 ghost use Rattle.txn_trace.specs.Legal.{IsLegal};
 ghost use Rattle.txn_words.specs.Owed.{may_change};
-ghost use Rattle.stripe_part.specs.Calls.{IsRefused};
+ghost use Rattle.stripe_shard.specs.Calls.{IsRefused};
 ghost use Rattle.striped_map.specs.Additions.{above, due, entries_of};
 ghost use Rattle.striped_map.specs.Handling.{GainsAtMost, HoldsAllOf, IsEnd, IsMiss, KeepsHeld, idle};
 ghost use Rattle.striped_map.specs.Lone.{RunsAlone};
 ghost use Rattle.striped_map.specs.declared.keep.Keep.TheVariants.{Entries};
 ghost use Rattle.striped_map.specs.Rule.{Holds, most};
-ghost use Rattle.striped_map.specs.Seats.{HasRoom, IsNext, IsOf, keep_of, known, part_in, stripes_of};
-ghost use Rattle.striped_map.specs.Sound.{AreHeld, AreLogged, IsIndexed, IsSound, held_parts};
-ghost use Rattle.striped_map.specs.Steps.{AreMade, Gathers, IsAt, SeesIn, counting, renumbered, seat_of, taken_in, told_of, rolled_back, undoing};
+ghost use Rattle.striped_map.specs.Seats.{HasRoom, IsNext, IsOf, keep_of, known, shard_in, stripes_of};
+ghost use Rattle.striped_map.specs.Sound.{AreHeld, AreLogged, IsIndexed, IsSound, held_shards};
+ghost use Rattle.striped_map.specs.Steps.{AreMade, Gathers, IsAt, SeesIn, counting, renumbered, stance_of, taken_in, told_of, rolled_back, undoing};
 
 use crate::addition::Addition;
 use crate::apart::Apart;
@@ -64,7 +64,7 @@ pub(crate) struct Hand {
     index: Index,
     order: Order,
     levels: Numbers,
-    ghost sound: { IsSound seat.seat.table_id.slots (known seat) (held_parts seat held.items)
+    ghost sound: { IsSound seat.seat.table_id.slots (known seat) (held_shards seat held.items)
         order.items levels.items },
     ghost indexed: { IsIndexed held.items index.items },
 }
@@ -111,21 +111,21 @@ fn under(op: Op, key: u64) -> Op
     }
 }
 
-/// Takes changes back in the parts of the held stripes, the newest change first, until `mark`
+/// Takes changes back in the shards of the held stripes, the newest change first, until `mark`
 /// changes remain. Takes no memory.
 fn take_back(map: &StripedMap, seat: &mut MapSeat, held: &Numbers, order: &mut Order, mark: usize)
     requires map { IsOf seat.old map.now }
     requires mark { mark ≤ length order.old.items }
-    requires parts { AreHeld (stripes_of map.now) (known seat.old)
-        (held_parts seat.old held.now.items) (now (known seat.old).seen) }
-    requires logged { AreLogged (stripes_of map.now) (held_parts seat.old held.now.items)
+    requires shards { AreHeld (stripes_of map.now) (known seat.old)
+        (held_shards seat.old held.now.items) (now (known seat.old).seen) }
+    requires logged { AreLogged (stripes_of map.now) (held_shards seat.old held.now.items)
         order.old.items (due (known seat.old)) }
     ensures map { IsOf seat.new map.now }
     ensures known { known seat.new ≡ known seat.old }
-    ensures parts { AreHeld (stripes_of map.now) (known seat.old)
-        (held_parts seat.new held.now.items) (rolled_back (now (known seat.old).seen)
+    ensures shards { AreHeld (stripes_of map.now) (known seat.old)
+        (held_shards seat.new held.now.items) (rolled_back (now (known seat.old).seen)
         (take (length order.old.items - mark) (due (known seat.old)))) }
-    ensures logged { AreLogged (stripes_of map.now) (held_parts seat.new held.now.items)
+    ensures logged { AreLogged (stripes_of map.now) (held_shards seat.new held.now.items)
         order.new.items (drop (length order.old.items - mark) (due (known seat.old))) }
     ensures len { length order.new.items ≡ mark }
     ensures room { HasRoom seat.old → HasRoom seat.new }
@@ -142,8 +142,8 @@ fn take_back(map: &StripedMap, seat: &mut MapSeat, held: &Numbers, order: &mut O
 fn give_all(map: &StripedMap, seat: &mut MapSeat, held: &mut Numbers)
     requires map { IsOf seat.old map.now }
     requires over { IsAt Closed (known seat.old) }
-    requires parts { AreHeld (stripes_of map.now) (known seat.old)
-        (held_parts seat.old held.old.items) (now (known seat.old).seen) }
+    requires shards { AreHeld (stripes_of map.now) (known seat.old)
+        (held_shards seat.old held.old.items) (now (known seat.old).seen) }
     ensures map { IsOf seat.new map.now }
     ensures idle { known seat.new ≡ idle (known seat.old) }
     ensures none { held.new.items ≡ [] }
@@ -505,9 +505,9 @@ impl Hand {
         }
     }
 
-    /// Does an operation on the part of the stripe at this place, with the sub-key in place of the
+    /// Does an operation on the shard of the stripe at this place, with the sub-key in place of the
     /// operation's key. Adds the operation and its reply to the history. If the operation changes
-    /// the part, notes the change, so that it can be taken back.
+    /// the shard, notes the change, so that it can be taken back.
     #[inline(always)]
     #[tactic(auto, using(crate::proofs::Ends::held_added))]
     fn apply(
@@ -551,7 +551,7 @@ impl Hand {
         Ok(reply)
     }
 
-    /// Makes room for a record, and does an operation on the part of the stripe at this place.
+    /// Makes room for a record, and does an operation on the shard of the stripe at this place.
     #[inline(always)]
     fn work(
         &mut self,
@@ -634,7 +634,7 @@ impl Hand {
         ensures open { IsAt Opened (known self.new.seat) }
         ensures levels { OnOk result (length self.new.levels.items
             ≡ length self.old.levels.items + 1) }
-        ensures ok { IfOk result (λ level. (level + 1 ≡ length (seat_of (known self.new.seat)).kept)
+        ensures ok { IfOk result (λ level. (level + 1 ≡ length (stance_of (known self.new.seat)).kept)
             × MovesHand map.now self.old (Saved (known self.old.seat).number ∷ []) self.new) }
         ensures refused { IfErr result (λ refusal. refusal ≡ NoMemory) }
         ensures still { (known self.new.seat).held ≡ (known self.old.seat).held }
@@ -654,7 +654,7 @@ impl Hand {
         ensures open { IsAt Opened (known self.new.seat) }
         ensures levels { OnOk result (length self.new.levels.items
             ≡ length self.old.levels.items + 1) }
-        ensures ok { IfOk result (λ level. (level + 1 ≡ length (seat_of (known self.new.seat)).kept)
+        ensures ok { IfOk result (λ level. (level + 1 ≡ length (stance_of (known self.new.seat)).kept)
             × MovesHand map.now self.old (Saved (known self.old.seat).number ∷ []) self.new) }
         ensures refused { IfErr result (λ refusal. refusal ≡ NoMemory) }
         ensures still { (known self.new.seat).held ≡ (known self.old.seat).held }
@@ -675,7 +675,7 @@ impl Hand {
 
     /// How many savepoints there are.
     pub(crate) fn levels(&self) -> u64
-        ensures { result + 1 ≡ length (seat_of (known self.now.seat)).kept }
+        ensures { result + 1 ≡ length (stance_of (known self.now.seat)).kept }
     {
         self.levels.len() as u64
     }
@@ -685,7 +685,7 @@ impl Hand {
     pub(crate) fn back(&mut self, map: &StripedMap, level: usize) -> Result<(), AllocError>
         requires map { IsOf self.old.seat map.now }
         requires open { IsAt Opened (known self.old.seat) }
-        requires level { level < length (seat_of (known self.old.seat)).kept }
+        requires level { level < length (stance_of (known self.old.seat)).kept }
         ensures map { IsOf self.new.seat map.now }
         ensures open { IsAt Opened (known self.new.seat) }
         ensures levels { OnOk result (length self.new.levels.items ≡ level) }
@@ -707,7 +707,7 @@ impl Hand {
     fn return_to(&mut self, map: &StripedMap, level: usize)
         requires map { IsOf self.old.seat map.now }
         requires open { IsAt Opened (known self.old.seat) }
-        requires level { level < length (seat_of (known self.old.seat)).kept }
+        requires level { level < length (stance_of (known self.old.seat)).kept }
         requires records { HasRoom self.old.seat }
         ensures map { IsOf self.new.seat map.now }
         ensures open { IsAt Opened (known self.new.seat) }

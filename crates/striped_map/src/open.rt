@@ -49,24 +49,24 @@ fn may_open(stripes: usize, callers: usize) -> bool
 }
 
 /// `count` empty places for records.
-fn empty_parts(alloc: Global, count: usize) -> Result<Vec<Option<Records>>, AllocError>
-    ensures { IfOk result (λ parts. parts.items ≡ replicate count None) }
+fn empty_records(alloc: Global, count: usize) -> Result<Vec<Option<Records>>, AllocError>
+    ensures { IfOk result (λ theirs. theirs.items ≡ replicate count None) }
 {
-    let mut parts = Vec::with_capacity(alloc, count)?;
+    let mut theirs = Vec::with_capacity(alloc, count)?;
     for _ in 0..count {
-        parts.push(None)?;
+        theirs.push(None)?;
     }
-    Ok(parts)
+    Ok(theirs)
 }
 
 /// A place for the records of each caller that there may ever be, if the map keeps its entries.
-fn no_parts(alloc: Global, keep: Keep) -> Result<Vec<Option<Records>>, AllocError>
-    ensures { IfOk result (λ parts. (count : ℕ) × (parts.items ≡ replicate count None)
+fn new_records(alloc: Global, keep: Keep) -> Result<Vec<Option<Records>>, AllocError>
+    ensures { IfOk result (λ theirs. (count : ℕ) × (theirs.items ≡ replicate count None)
         × (keep ≡ Entries → count ≡ 65535)) }
 {
     match keep {
-        Keep::Entries => empty_parts(alloc, (1 << 16) - 1),
-        _ => empty_parts(alloc, 0),
+        Keep::Entries => empty_records(alloc, (1 << 16) - 1),
+        _ => empty_records(alloc, 0),
     }
 }
 
@@ -99,7 +99,7 @@ impl Opening {
     /// # Cost
     ///
     /// Time and memory in proportion to the stripes, the callers and the keys. Without room for
-    /// keys, the part of a stripe takes memory with its first change. If the map keeps its entries,
+    /// keys, the shard of a stripe takes memory with its first change. If the map keeps its entries,
     /// also 5.8 megabytes, for the records of all callers that there may be and for the shelf, which
     /// took 5 to 8 milliseconds on a busy machine.
     pub fn open(&self, alloc: Global) -> Result<(Host, Vec<Caller>), Refusal>
@@ -129,7 +129,7 @@ impl Opening {
             let seat = map.seat(alloc, &mut first, place as u64 + 1);
             all.push_reserved(Caller::new(alloc, owned, seat));
         }
-        let parts = no_parts(alloc, keep)?;
-        Ok((Host::new(alloc, map, first, parts), all))
+        let theirs = new_records(alloc, keep)?;
+        Ok((Host::new(alloc, map, first, theirs), all))
     }
 }

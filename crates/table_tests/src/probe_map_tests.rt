@@ -7,7 +7,7 @@ use crate::draws::{Draws, draw};
 use std::alloc::{AllocError, Global};
 use std::process::Abort;
 use std::test::Fail;
-use stripe_part::ProbeMap;
+use stripe_shard::ProbeMap;
 
 /// The product of this key and the map's multiplier is 1, modulo 2^64. So the home of a small
 /// multiple of this key is the first slot, and the home of the negative of a small multiple is the

@@ -7,7 +7,7 @@ use Rattle.thread_runs.proofs.Vocabulary.{goes_quiet, IsAfterHelp, HasEnded, Has
 use Rattle.thread_runs.proofs.Vocabulary.{refused_at}
 use Rattle.script_worker.proofs.Vocabulary.{Answer, Call, End, Entry, IsMade, OutOfStep, Refusal, Action, append_quiet, BadKey, call_at}
 use Rattle.script_worker.proofs.Vocabulary.{Closed, CommitNothing, false≢true, first_heard, Heard, heard_then, is_bad_key, IsChunk, Outcome}
-use Rattle.script_worker.proofs.Vocabulary.{outcome_by, progress_of, Seat, seat_after}
+use Rattle.script_worker.proofs.Vocabulary.{outcome_by, progress_of, Stance, stance_after}
 use Rattle.locked_map.proofs.Calling.{sound_if_free}
 use Rattle.thread_runs.proofs.{ScriptEnds.MayLeave, ScriptEnds.Stands, ScriptEnds.stands_at, ScriptEnds.if_bad}
 
@@ -64,9 +64,9 @@ pub grown_by : {S : Type 0} (words : S → List ℕ) (k : Token S) (last : End) 
 grown_by words k last key (End.Refused OutOfStep) l done ended = (done, key, words, ended)
 grown_by words k last key (End.Refused refusal) l done (inl (refused, same)) = rw same (refl, refl)
 grown_by words k last key (End.Refused refusal) l done (inr (free, none)) =
-    (none.seen, none.sound ∙ sym (sound_if_free k.limits.half k.broken (seat_after k.seen) (Call.Help key) free))
+    (none.seen, none.sound ∙ sym (sound_if_free k.limits.half k.broken (stance_after k.seen) (Call.Help key) free))
 grown_by words k last key End.Helped l done ran =
-    let sound = sound_if_free k.limits.half k.broken (seat_after k.seen) (Call.Help key) ran.free in
+    let sound = sound_if_free k.limits.half k.broken (stance_after k.seen) (Call.Help key) ran.free in
     (rw (ran.made, append-nil) at ran.entries, ran.sound ∙ sym sound)
 grown_by words k last key outcome l done ran = absurd ran.made
 
@@ -82,7 +82,7 @@ before_first c half script base heard broken is at = rw is (([], sym (append-nil
 -- for help ends with `OutOfStep`.
 pub called : {S : Type 0} (c : ℕ) (half : Bool) (tries : ℕ) (script : List Action) (base : List Entry) (heard heard' : Heard) (j k l : Token S) (call : Call) (end : End) (p : Progress)
     → j.number ≡ c → j.limits.half ≡ half → call ≡ call_at script heard.attempt.stage → heard' ≡ heard → p ≡ progress_of script tries heard'.attempt end
-    → Adds j.number call end j.seen k.seen → HasEnded j call end k → (k.broken ≡ false → is_some (seat_after k.seen) ≡ true) → IsAfterHelp k end true l
+    → Adds j.number call end j.seen k.seen → HasEnded j call end k → (k.broken ≡ false → is_some (stance_after k.seen) ≡ true) → IsAfterHelp k end true l
     → IsBefore c half script base heard j.broken j.seen
     → RunsOn c tries script heard' end base l.seen p × Stands half script l.broken l.seen p
 called c half tries script base heard heard' j k l call end p mine halves call_is same p_is adds ended rows on before =
@@ -91,16 +91,16 @@ called c half tries script base heard heard' j k l call end p mine halves call_i
       stands_at half script tries heard.attempt.again heard.attempt.stage j k halves rows before.1.0 before.1.1 end (rw call_is at ended),
     )
 
-out_if_refused : (half b : Bool) (seat : Option Seat) (key : ℕ) → (b ≡ false → is_some seat ≡ true) → refused_at half b seat (Call.Help key) ≡ Some OutOfStep → b ≡ true
-out_if_refused half true seat key rows is = refl
+out_if_refused : (half b : Bool) (stance : Option Stance) (key : ℕ) → (b ≡ false → is_some stance ≡ true) → refused_at half b stance (Call.Help key) ≡ Some OutOfStep → b ≡ true
+out_if_refused half true stance key rows is = refl
 out_if_refused half false None key rows is = absurd (false≢true (rows refl))
 out_if_refused half false (Some s) key rows is = absurd (cc (if_bad (is_bad_key half key) BadKey OutOfStep is).1)
 
 -- If a call for help ends with `OutOfStep`, the token is broken.
 broken_by : {S : Type 0} (words : S → List ℕ) (k : Token S) (key : ℕ) (l : Token S)
-    → (k.broken ≡ false → is_some (seat_after k.seen) ≡ true) → Ended words k (Call.Help key) (End.Refused OutOfStep) l → l.broken ≡ true
+    → (k.broken ≡ false → is_some (stance_after k.seen) ≡ true) → Ended words k (Call.Help key) (End.Refused OutOfStep) l → l.broken ≡ true
 broken_by words k key l rows (inl (refused, same)) =
-    rw same (out_if_refused k.limits.half k.broken (seat_after k.seen) key rows refused)
+    rw same (out_if_refused k.limits.half k.broken (stance_after k.seen) key rows refused)
 broken_by words k key l rows (inr (free, fell)) = fell.broken
 
 -- Only an operation has a reply, and an operation commits nothing.
@@ -111,7 +111,7 @@ done_quiet c call reply added made = absurd made
 -- If the call for help after a put ends with `OutOfStep`, the script's outcome is the refusal
 -- `OutOfStep`.
 pub fell_out : {S : Type 0} (c c' tries : ℕ) (script : List Action) (heard : Heard) (base seen : List Entry) (call : Call) (last : End)
-    (k l : Token S) → Adds c' call last seen k.seen → (k.broken ≡ false → is_some (seat_after k.seen) ≡ true) → IsAfterHelp k last false l
+    (k l : Token S) → Adds c' call last seen k.seen → (k.broken ≡ false → is_some (stance_after k.seen) ≡ true) → IsAfterHelp k last false l
     → IsRunning c script heard base seen → HasRunTo c tries script (Outcome.Refused OutOfStep) base l.seen × IsIn Closed l.broken l.seen
 fell_out c c' tries script heard base seen call last k l adds rows (last_is, key, words, ended) running =
     let fell = (adds_of words k (Call.Help key) (End.Refused OutOfStep) l ended).0 in

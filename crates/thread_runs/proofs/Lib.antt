@@ -1,6 +1,6 @@
 pub mod Vocabulary
 pub mod Rounds
-pub mod Seating
+pub mod Stances
 pub mod Lists
 pub mod ScriptEnds
 pub mod Reports

@@ -5,7 +5,7 @@ use Rattle.std.proofs.Common.{get_or, map, reverse, arith, All, mod-lt}
 use Rattle.thread_runs.proofs.Vocabulary.{accounts_true, AreToldIn, Each, every-map, get-every, get_empty, get_within, HasReported}
 use Rattle.thread_runs.proofs.Vocabulary.{HasRunScripts, IsOwn, MayCome, number_at, outcome_told, true_plays, WorkerReport}
 use Rattle.script_worker.proofs.Vocabulary.{Action, AllByRecursion, AreAllTrue, Begun, caller_of, Entry, every, get_or-map}
-use Rattle.script_worker.proofs.Vocabulary.{get_or-map-range_with_len, has_seat, IsLegal, IsShaped, length-map, length-map-range_with_len}
+use Rattle.script_worker.proofs.Vocabulary.{get_or-map-range_with_len, has_stance, IsLegal, IsShaped, length-map, length-map-range_with_len}
 use Rattle.script_worker.proofs.Vocabulary.{length-reverse, Outcome, own, range_with_len, RepliesHold, reverse-reverse, Sizes, Told}
 use Rattle.script_worker.proofs.Vocabulary.{tolds_of}
 use Rattle.thread_runs.proofs.Lists.{all_at, get_map, map_get}
@@ -60,7 +60,7 @@ module _ {L W : Type 0} (items : W → List codes.Outcome) (half : Bool) (worker
         let told : AreToldIn c tries (every workers c scripts) (every workers c (map outcome_told outcomes)) (own c h) =
         rw (mine, own_outcomes c r at) report.ran.told in
         accounts_true c tries h (tolds_of (every workers c scripts) (every workers c (map outcome_told outcomes))) shape replies
-        (told (has_seat h shape c))
+        (told (has_stance h shape c))
 
     -- Each outcome is one that its script allows.
     pub reports_may : 0 < workers → (i : ℕ) (script : List Action) (outcome : Outcome) → slice_get scripts i ≡ Some script → slice_get (map outcome_told outcomes) i ≡ Some outcome → MayCome half script outcome

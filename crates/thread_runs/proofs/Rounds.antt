@@ -1,7 +1,7 @@
 -- The loop over a worker's scripts.
 use Rattle.std.proofs.Common.{◌≡◌, ℕ, ◌<◌, List, [], ◌∷◌, ◌++◌, length, slice_get, Some, ◌∙◌, ◌+◌, ◌*◌, ◌≤◌, Bool, None, arith}
 use Rattle.thread_runs.proofs.Vocabulary.{account_more, AreToldIn, get-every, get_none, HasRunAll, HasRunTo, MayAllCome, MayCome}
-use Rattle.thread_runs.proofs.Vocabulary.{no_account, seat_front, tolds_of-none, tolds_of-push}
+use Rattle.thread_runs.proofs.Vocabulary.{no_account, stance_front, tolds_of-none, tolds_of-push}
 use Rattle.script_worker.proofs.Vocabulary.{Action, ByRecursion-append, Entry, every, length_push, Outcome, slice_get_within, Told}
 use Rattle.script_worker.proofs.Vocabulary.{tolds_of}
 
@@ -37,7 +37,7 @@ so_far_more half workers tries c scripts number outcomes more script outcome see
     rw same (record {
       at = rw (length_push outcomes outcome) (omega (arith, so_far.at));
       told = λ whole. rw seen_is (account_more c tries mine outcomes script outcome seen chunk here
-          (so_far.told (seat_front seen chunk (rw seen_is at whole))) (account whole));
+          (so_far.told (stance_front seen chunk (rw seen_is at whole))) (account whole));
       may = rw (tolds_of-push mine outcomes script outcome here)
           (ByRecursion-append May May (λ told may. may) (tolds_of mine outcomes) _ so_far.may (may, tt));
       within = omega (arith, length_push outcomes outcome, slice_get_within mine (length outcomes) script here);

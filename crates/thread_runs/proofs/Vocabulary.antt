@@ -5,7 +5,7 @@ pub use Rattle.locked_map.specs.{Calls.Failed, Calls.Ran, Closes.IsOwn}
 pub use Rattle.script_worker.proofs.Accounts.{account_more, no_account, tolds_of-none, tolds_of-push, true_plays}
 pub use Rattle.script_worker.proofs.Every.{every-fewer, every-hit, every-length, every-map, every-miss, get-every, get_empty, get_none}
 pub use Rattle.script_worker.proofs.Every.{get_within, number_at, one_remainder}
-pub use Rattle.script_worker.proofs.{Chunks.after_call, Chunks.chunk_begun, Chunks.goes_quiet, Reading.seat_front, Telling.accounts_true}
+pub use Rattle.script_worker.proofs.{Chunks.after_call, Chunks.chunk_begun, Chunks.goes_quiet, Reading.stance_front, Telling.accounts_true}
 pub use Rattle.script_worker.specs.declared.attempt.Progress.TheVariants.{Next, Over}
 pub use Rattle.script_worker.specs.declared.attempt.Stage.TheVariants.{Acting, Beginning, Leaving}
 pub use Rattle.script_worker.specs.declared.{attempt.Finish.Finish, attempt.Progress.Progress, attempt.Stage.Stage}
@@ -13,4 +13,4 @@ pub use Rattle.thread_runs.specs.Runs.{Each, Adds, AreToldIn, IsAfterHelp, HasEn
 pub use Rattle.thread_runs.specs.Runs.{HasRunAll, HasRunScripts, HasRunTo, heard_of, IsIn, MayAllCome, phase_at, outcome_told}
 pub use Rattle.thread_runs.specs.Possible.{has_bad_key, is_abort, is_back, is_op, MayBeRefused, MayCome}
 pub use Rattle.thread_runs.specs.declared.worker.WorkerReport.{WorkerReport}
-pub use Rattle.txn_words.specs.declared.seat.Phase.{Phase}
+pub use Rattle.txn_words.specs.declared.stance.Phase.{Phase}

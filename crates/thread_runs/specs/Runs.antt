@@ -8,13 +8,13 @@ use Rattle.txn_words.specs.declared.answer.Answer.TheVariants as answers
 use Rattle.txn_words.specs.declared.entry.Entry.{Entry}
 use Rattle.txn_words.specs.declared.refusal.Refusal.{Refusal}
 use Rattle.txn_words.specs.declared.refusal.Refusal.TheVariants.{NoMemory, NoThread, OutOfStep}
-use Rattle.txn_words.specs.declared.seat.Phase.{Phase}
-use Rattle.txn_words.specs.declared.seat.Phase.TheVariants.{Closed, Opened}
+use Rattle.txn_words.specs.declared.stance.Phase.{Phase}
+use Rattle.txn_words.specs.declared.stance.Phase.TheVariants.{Closed, Opened}
 use Rattle.txn_words.specs.Kinds.{caller_of}
 use Rattle.txn_trace.specs.Legal.{IsLegal}
 use Rattle.txn_trace.specs.Plays.{PlayScripts}
 use Rattle.txn_words.specs.Sizes.{Sizes}
-use Rattle.txn_words.specs.Shape.{Seat, seat_after}
+use Rattle.txn_words.specs.Shape.{Stance, stance_after}
 use Rattle.txn_drive.specs.declared.call.Call.{Call}
 use Rattle.txn_drive.specs.declared.call.Call.TheVariants as calls
 use Rattle.txn_drive.specs.declared.«end».End.{End}
@@ -40,18 +40,18 @@ use Rattle.thread_runs.specs.declared.worker.WorkerReport.{WorkerReport}
 abbrev pub Each : {X : Type 0} → (ℕ → X → Type 0) → List X → Type 0
 Each {X} P xs = (i : ℕ) (x : X) → slice_get xs i ≡ Some x → P i x
 
--- The phase of a caller's seat at a stage of an attempt.
+-- The phase of a caller's stance at a stage of an attempt.
 abbrev pub phase_at : Stage → Phase
 phase_at Beginning = Closed
 phase_at stage = Opened
 
--- The seat exists and has this phase.
-abbrev pub HasPhase : Phase → Option Seat → Type 0
-HasPhase phase seat = (s : Seat) × (seat ≡ Some s) × (s.phase ≡ phase)
+-- The stance exists and has this phase.
+abbrev pub HasPhase : Phase → Option Stance → Type 0
+HasPhase phase stance = (s : Stance) × (stance ≡ Some s) × (s.phase ≡ phase)
 
--- A caller's token is broken, or its seat has this phase.
+-- A caller's token is broken, or its stance has this phase.
 abbrev pub IsIn : Phase → Bool → List Entry → Type 0
-IsIn phase broken seen = (broken ≡ true) ⊎ HasPhase phase (seat_after seen)
+IsIn phase broken seen = (broken ≡ true) ⊎ HasPhase phase (stance_after seen)
 
 -- Either the call ended with `outcome`, or memory for its reply was refused and the call was not
 -- made. In the second case `outcome` is the refusal `NoMemory`, and the token is unchanged.
@@ -66,7 +66,7 @@ pub record Adds (c : ℕ) (call : Call) (outcome : End) (seen seen' : List Entry
   pub added : List Entry
   pub entries : seen' ≡ seen ++ added
   pub made : IsMade c call outcome added
-  pub quiet : is_some (seat_after seen') ≡ true → IsQuiet outcome added
+  pub quiet : is_some (stance_after seen') ≡ true → IsQuiet outcome added
 
 -- `k` is a caller's token after a call that ended with `outcome`, and `l` is the token after the
 -- call for help that may follow. If the flag is true, `l` has seen the same entries as `k`, and is
@@ -104,13 +104,13 @@ outcome_told (outcomes.Refused refusal) = accounts.Refused refusal
 abbrev pub HasRunTo : ℕ → ℕ → List Action → Outcome → List Entry → List Entry → Type 0
 HasRunTo c tries script outcome base seen =
     (chunk : List Entry) × (seen ≡ base ++ chunk)
-    × (is_some (seat_after seen) ≡ true → IsAccount c tries script outcome chunk)
+    × (is_some (stance_after seen) ≡ true → IsAccount c tries script outcome chunk)
 
 -- If the rule of shape allows all entries that a caller has seen, these entries are the accounts of
 -- the caller's scripts so far (`AreAccounts`).
 abbrev pub AreToldIn : ℕ → ℕ → List (List Action) → List Outcome → List Entry → Type 0
 AreToldIn c tries scripts outcomes seen =
-    is_some (seat_after seen) ≡ true → AreAccounts c tries (tolds_of scripts outcomes) seen
+    is_some (stance_after seen) ≡ true → AreAccounts c tries (tolds_of scripts outcomes) seen
 
 -- Each script has an outcome that its actions allow.
 abbrev pub MayAllCome : Bool → List (List Action) → List Outcome → Type 0

@@ -4,8 +4,8 @@
 //! (`IsAccount` of `script_worker`).
 ghost use Rattle.std.specs.Prelude.{◌≡◌, ◌-◌, true, false, is_some, vec_len, vec_capacity};
 ghost use Rattle.txn_words.specs.declared.refusal.Refusal.{Refusal};
-ghost use Rattle.txn_words.specs.declared.seat.Phase.{Phase};
-ghost use Rattle.txn_words.specs.Shape.{seat_after};
+ghost use Rattle.txn_words.specs.declared.stance.Phase.{Phase};
+ghost use Rattle.txn_words.specs.Shape.{stance_after};
 ghost use Rattle.locked_map.specs.Suits.{may_refuse};
 ghost use Rattle.locked_map.specs.Tokens.{IsSameCaller};
 ghost use Rattle.thread_runs.specs.Possible.{MayCome};
@@ -127,7 +127,7 @@ impl Heard {
     ) -> End
         ensures adds { Adds me.old.number call result me.old.seen me.new.seen }
         ensures ended { HasEnded me.old call result me.new }
-        ensures rows { me.new.broken ≡ false → is_some (seat_after me.new.seen) ≡ true }
+        ensures rows { me.new.broken ≡ false → is_some (stance_after me.new.seen) ≡ true }
         ensures same { IsSameCaller me.old me.new }
         ensures heard { heard_of self.new ≡ heard_of self.old }
         ensures room { HasRoomAt result

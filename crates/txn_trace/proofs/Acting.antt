@@ -14,8 +14,8 @@ use Rattle.txn_trace.specs.History.{of}
 use Rattle.txn_trace.specs.Alone.{AloneRun, with_op, act_did, act, alone, last_map, map_after}
 use Rattle.txn_trace.specs.Serial.{serial}
 use Rattle.txn_trace.specs.Now.{now}
-use Rattle.txn_words.specs.declared.seat.Phase.TheVariants.{Waiting}
-use Rattle.txn_words.specs.Shape.{Seat, seat_after, own, is_shaped}
+use Rattle.txn_words.specs.declared.stance.Phase.TheVariants.{Waiting}
+use Rattle.txn_words.specs.Shape.{Stance, stance_after, own, is_shaped}
 use Rattle.txn_trace.specs.Legal.{IsLegal}
 use Rattle.txn_words.proofs.Effects.{after_unchanged, get-after_other, get-after_same}
 use Rattle.txn_words.proofs.Maps.{same_map}
@@ -26,7 +26,7 @@ use Rattle.txn_trace.proofs.Stripes.{keys_in, asks_own, are_apart}
 use Rattle.txn_trace.proofs.Now.{same_is, running_of, now_at-holder, open_going}
 use Rattle.txn_trace.proofs.Table.{get-now}
 use Rattle.txn_trace.proofs.Fits.{Fits, PhaseFits}
-use Rattle.txn_trace.proofs.Seated.{are_seated, the_some}
+use Rattle.txn_trace.proofs.StanceRuns.{have_stances, the_some}
 use Rattle.txn_trace.proofs.BadEntries.{legal_push, shape_push, locks_push}
 use Rattle.txn_trace.proofs.Others.{replies-push_other, now_at-push}
 
@@ -45,8 +45,8 @@ waits_in stripes es m r op run waits =
     subst (WaitsFor (keys_in stripes es)) waits alike'.waits
 
 -- Lemmas on a caller that waits and receives the reply that the map `now` gives to its operation.
-module _ {holder : Holder} (stripes : ℕ) (g : List Entry) (legal : IsLegal holder stripes g) (c t : ℕ) (op : Op) (x : Option ℕ) (seat : Seat)
-    (in_t : txn_in g c ≡ Some t) (going : ended t g ≡ false) (seat_is : seat_after (own c g) ≡ Some seat) (waiting : seat.phase ≡ Waiting op)
+module _ {holder : Holder} (stripes : ℕ) (g : List Entry) (legal : IsLegal holder stripes g) (c t : ℕ) (op : Op) (x : Option ℕ) (stance : Stance)
+    (in_t : txn_in g c ≡ Some t) (going : ended t g ≡ false) (stance_is : stance_after (own c g) ≡ Some stance) (waiting : stance.phase ≡ Waiting op)
     (right : x ≡ reply_of (now g) op) (shaped : is_shaped g (Did c x) ≡ true) where
   the_run : (r : AloneRun) × (alone (serial g) (of t g) ≡ Some r)
   the_run = the_some (alone (serial g) (of t g)) (legal.replies g ([], append-nil g) t (open_going t g going))
@@ -60,10 +60,10 @@ module _ {holder : Holder} (stripes : ℕ) (g : List Entry) (legal : IsLegal hol
 
   waits : run.pending ≡ Some op
   waits =
-      let there = are_seated g legal.shape c t in_t going in
-      let fits : Fits there.seat run = there.fits (serial g) run run_is in
-      let same : there.seat ≡ seat = cc (sym there.is ∙ seat_is) in
-      subst (λ q. PhaseFits q seat run) waiting (subst (λ (s : Seat). PhaseFits s.phase s run) same fits.phase)
+      let there = have_stances g legal.shape c t in_t going in
+      let fits : Fits there.stance run = there.fits (serial g) run run_is in
+      let same : there.stance ≡ stance = cc (sym there.is ∙ stance_is) in
+      subst (λ q. PhaseFits q stance run) waiting (subst (λ (s : Stance). PhaseFits s.phase s run) same fits.phase)
 
   held : keys_in stripes (of t g) (key_of op) ≡ true
   held = waits_in stripes (of t g) (serial g) run op run_is waits

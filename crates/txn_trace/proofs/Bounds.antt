@@ -26,7 +26,7 @@ use Rattle.txn_trace.proofs.Now.{KeyHolder, now_at-free, now_at-holder, holder_o
 use Rattle.txn_trace.proofs.Table.{get-now}
 use Rattle.txn_trace.proofs.BadEntries.{shape_push, locks_push}
 use Rattle.txn_trace.proofs.Others.{now_at-push_mine, now_at-push_else, serial_is, entries_stay}
-use Rattle.txn_trace.proofs.Seated.{none_before, are_seated}
+use Rattle.txn_trace.proofs.StanceRuns.{none_before, have_stances}
 
 -- The first map of a run, given its last map and its earlier maps, newest first.
 abbrev pub first_map : Map → List Map → Map
@@ -75,7 +75,7 @@ module _ {holder : Holder} (stripes : ℕ) (g : List Entry) (legal : IsLegal hol
   callers = callers_of g legal.shape
 
   none : of t g ≡ []
-  none = none_before g (Began c t) callers shaped (are_seated g legal.shape) t refl at
+  none = none_before g (Began c t) callers shaped (have_stances g legal.shape) t refl at
 
   last_is : map_after (serial g) (of t g ++ Began c t ∷ []) ≡ serial g
   last_is = ap (λ es. map_after (serial g) (es ++ Began c t ∷ [])) none

@@ -10,11 +10,11 @@ use Rattle.txn_words.specs.declared.entry.Entry.{Entry}
 use Rattle.txn_words.specs.declared.entry.Entry.TheVariants.{Began, Asked, Did, Saved, Leave, Undone, Returned, Committed, Busy, Aborted}
 use Rattle.txn_trace.specs.History.{Line, txn_after, lines_of, of, ends_in, is_open}
 use Rattle.txn_words.specs.Kinds.{caller_of, is_began, is_commit, is_abort}
-use Rattle.txn_words.specs.declared.seat.Phase.{Phase}
-use Rattle.txn_words.specs.declared.seat.Phase.TheVariants.{Closed, Opened, Waiting, LeavingTo, LeavingToEnd}
-use Rattle.txn_words.specs.Shape.{Seat, row, seat_after, closed_seat, own, how_many, is_shaped, is_numbered}
+use Rattle.txn_words.specs.declared.stance.Phase.{Phase}
+use Rattle.txn_words.specs.declared.stance.Phase.TheVariants.{Closed, Opened, Waiting, LeavingTo, LeavingToEnd}
+use Rattle.txn_words.specs.Shape.{Stance, row, stance_after, closed_stance, own, how_many, is_shaped, is_numbered}
 use Rattle.txn_trace.specs.Legal.{runs, is_running}
-use Rattle.txn_trace.proofs.Pushes.{txn_in, txn_at, txn_in-push, seat_after-push, own-push_in, how_many-push}
+use Rattle.txn_trace.proofs.Pushes.{txn_in, txn_at, txn_in-push, stance_after-push, own-push_in, how_many-push}
 
 abbrev pub is_end : Entry → Bool
 is_end e = is_commit e || is_abort e
@@ -38,8 +38,8 @@ pub record Callers (g : List Entry) : Type 0 where
   pub numbers : (c t : ℕ) → txn_in g c ≡ Some t → t ≤ how_many is_began g
   pub ended_numbers : (t : ℕ) → ended t g ≡ true → t ≤ how_many is_began g
   pub one : (c d t : ℕ) → txn_in g c ≡ Some t → txn_in g d ≡ Some t → c ≡ d
-  pub closed : (c t : ℕ) → txn_in g c ≡ Some t → ended t g ≡ true → seat_after (own c g) ≡ Some closed_seat
-  pub running : (c t : ℕ) → txn_in g c ≡ Some t → ended t g ≡ false → is_running (seat_after (own c g)) ≡ true
+  pub closed : (c t : ℕ) → txn_in g c ≡ Some t → ended t g ≡ true → stance_after (own c g) ≡ Some closed_stance
+  pub running : (c t : ℕ) → txn_in g c ≡ Some t → ended t g ≡ false → is_running (stance_after (own c g)) ≡ true
   pub owned : AllByRecursion (IsOwned g) (lines_of g)
 
 pub callers_none : Callers []
@@ -79,7 +79,7 @@ after_is g e x t is = elim (cases_eq x (caller_of e)) [
     from _ other got = got
 
 -- The only entry that a closed caller may add is a `Began`.
-pub closed_begins : (e : Entry) → is_some (row closed_seat closed_seat.phase e) ≡ true → is_began e ≡ true
+pub closed_begins : (e : Entry) → is_some (row closed_stance closed_stance.phase e) ≡ true → is_began e ≡ true
 closed_begins (Began c t) h = refl
 closed_begins _ h = absurd (false≢true h)
 
@@ -98,13 +98,13 @@ in_or_out (Some u) t = elim (cases_eq u t) [ inl same ↦ inl (ap Some same) | i
 pub more : (g : List Entry) (e : Entry) → how_many is_began g ≤ how_many is_began (g ++ e ∷ [])
 more g e = omega (arith, how_many-push is_began g e)
 
-pub shaped_seat : (g : List Entry) (e : Entry) → is_shaped g e ≡ true → is_some (option_and_then (λ s. row s s.phase e) (seat_after (own (caller_of e) g))) ≡ true
-shaped_seat g e is =
-    let both = and_parts (is_some (seat_after (own (caller_of e) (g ++ e ∷ [])))) (is_numbered g e) is in
-    subst (λ s. is_some s ≡ true) (ap seat_after (own-push_in (caller_of e) g e refl) ∙ seat_after-push (own (caller_of e) g) e) both.0
+pub shaped_stance : (g : List Entry) (e : Entry) → is_shaped g e ≡ true → is_some (option_and_then (λ s. row s s.phase e) (stance_after (own (caller_of e) g))) ≡ true
+shaped_stance g e is =
+    let both = and_parts (is_some (stance_after (own (caller_of e) (g ++ e ∷ [])))) (is_numbered g e) is in
+    subst (λ s. is_some s ≡ true) (ap stance_after (own-push_in (caller_of e) g e refl) ∙ stance_after-push (own (caller_of e) g) e) both.0
 
 pub shaped_number : (g : List Entry) (e : Entry) → is_shaped g e ≡ true → is_numbered g e ≡ true
-shaped_number g e is = (and_parts (is_some (seat_after (own (caller_of e) (g ++ e ∷ [])))) (is_numbered g e) is).1
+shaped_number g e is = (and_parts (is_some (stance_after (own (caller_of e) (g ++ e ∷ [])))) (is_numbered g e) is).1
 
 pub began_or_not : (e : Entry) → (is_began e ≡ true) ⊎ (is_began e ≡ false)
 began_or_not (Began c t) = inl refl
@@ -129,8 +129,8 @@ not_after_end g e t callers shaped done at = elim (began_or_not e) [
       let m = callers.ended_numbers t done in
       omega arith
   | inr b ↦
-      let seat = callers.closed (caller_of e) t (not_began_is g e t b (at_is g e t at)) done in
-      let some : is_some (row closed_seat closed_seat.phase e) ≡ true = subst (λ s. is_some (option_and_then (λ s. row s s.phase e) s) ≡ true) seat (shaped_seat g e shaped) in
+      let stance = callers.closed (caller_of e) t (not_began_is g e t b (at_is g e t at)) done in
+      let some : is_some (row closed_stance closed_stance.phase e) ≡ true = subst (λ s. is_some (option_and_then (λ s. row s s.phase e) s) ≡ true) stance (shaped_stance g e shaped) in
       false≢true (sym b ∙ closed_begins e some)
 ]
 
@@ -139,26 +139,26 @@ end_not_began (Began c t) h = absurd (false≢true h)
 end_not_began _ h = refl
 
 -- The entries `Committed` and `Aborted` close their caller. No other entry closes a caller.
-pub end_closes : (e : Entry) (o : Option Seat) → is_end e ≡ true → is_some (option_and_then (λ s. row s s.phase e) o) ≡ true → option_and_then (λ s. row s s.phase e) o ≡ Some closed_seat
+pub end_closes : (e : Entry) (o : Option Stance) → is_end e ≡ true → is_some (option_and_then (λ s. row s s.phase e) o) ≡ true → option_and_then (λ s. row s s.phase e) o ≡ Some closed_stance
 end_closes e None c h = absurd (false≢true h)
 end_closes e (Some s) c h = at e s.phase c h
   where
-    at : (f : Entry) (q : Phase) → is_end f ≡ true → is_some (row s q f) ≡ true → row s q f ≡ Some closed_seat
+    at : (f : Entry) (q : Phase) → is_end f ≡ true → is_some (row s q f) ≡ true → row s q f ≡ Some closed_stance
     at (Committed x p) Opened c h = refl
     at (Committed x p) _ c h = absurd (false≢true h)
     at (Aborted x) LeavingToEnd c h =
-        (elim (s.standing == 0) as (λ b. is_some (cond b (Some closed_seat) None) ≡ true → cond b (Some closed_seat) None ≡ Some closed_seat) [ true ↦ λ k. refl | false ↦ λ k. absurd (false≢true k) ]) h
+        (elim (s.standing == 0) as (λ b. is_some (cond b (Some closed_stance) None) ≡ true → cond b (Some closed_stance) None ≡ Some closed_stance) [ true ↦ λ k. refl | false ↦ λ k. absurd (false≢true k) ]) h
     at (Aborted x) _ c h = absurd (false≢true h)
     at _ q c h = absurd (false≢true c)
 
-runs_if : (b : Bool) (s : Seat) → runs s.phase ≡ true → is_some (cond b (Some s) None) ≡ true → is_running (cond b (Some s) None) ≡ true
+runs_if : (b : Bool) (s : Stance) → runs s.phase ≡ true → is_some (cond b (Some s) None) ≡ true → is_running (cond b (Some s) None) ≡ true
 runs_if true s r h = r
 runs_if false s r h = absurd (false≢true h)
 
 runs_still : (s q : Phase) → s ≡ q → runs q ≡ true → runs s ≡ true
 runs_still s q is r = ap runs is ∙ r
 
-pub other_runs : (e : Entry) (o : Option Seat) → is_end e ≡ false → is_some (option_and_then (λ s. row s s.phase e) o) ≡ true → is_running (option_and_then (λ s. row s s.phase e) o) ≡ true
+pub other_runs : (e : Entry) (o : Option Stance) → is_end e ≡ false → is_some (option_and_then (λ s. row s s.phase e) o) ≡ true → is_running (option_and_then (λ s. row s s.phase e) o) ≡ true
 other_runs e None c h = absurd (false≢true h)
 other_runs e (Some s) c h = at e s.phase refl c h
   where
@@ -179,7 +179,7 @@ other_runs e (Some s) c h = at e s.phase refl c h
     at _ q is c h = absurd (false≢true h)
 
 -- Only a closed caller may begin a transaction.
-pub began_was_closed : (e : Entry) (o : Option Seat) → is_began e ≡ true → is_some (option_and_then (λ s. row s s.phase e) o) ≡ true → is_running o ≡ false
+pub began_was_closed : (e : Entry) (o : Option Stance) → is_began e ≡ true → is_some (option_and_then (λ s. row s s.phase e) o) ≡ true → is_running o ≡ false
 began_was_closed e None b h = refl
 began_was_closed e (Some s) b h = at e s.phase b h
   where

@@ -1,4 +1,4 @@
--- Shows that a verdict's counts are those of the entries and seats, because a Began opens one
+-- Shows that a verdict's counts are those of the entries and stances, because a Began opens one
 -- transaction with the next number, and only its caller's end closes it.
 use Rattle.std.proofs.Common.{◌≡◌, ◌≢◌, ℕ, zero, suc, ◌+◌, ◌<◌, ◌≤◌, ◌==◌, Bool, true, false, cond, not, List, [], ◌∷◌, ◌++◌, length, max, refl, ap, sym, subst, ◌∙◌, Some, None, Option, is_some, arith, length-append}
 use Rattle.std.specs.Option.{option_and_then}
@@ -10,11 +10,11 @@ use mathlib.Core.Logic.{inl, inr}
 use Rattle.txn_words.specs.declared.entry.Entry.{Entry}
 use Rattle.txn_trace.specs.History.{is_open, txns_of, commits, open_txns}
 use Rattle.txn_words.specs.Kinds.{caller_of, is_began, is_commit}
-use Rattle.txn_words.specs.Shape.{Seat, row, seat_after, own, how_many, is_shaped, IsShaped}
+use Rattle.txn_words.specs.Shape.{Stance, row, stance_after, own, how_many, is_shaped, IsShaped}
 use Rattle.txn_trace.specs.Legal.{is_running, callers_in, running}
 use Rattle.txn_trace.proofs.Pushes.{txn_in, txn_at, how_many-push}
-use Rattle.txn_trace.proofs.Callers.{Callers, is_end, ended, is_open-ended, not_after_end, shaped_seat, shaped_number, began_or_not, began_number, at_is, not_began_is, some_same, other_runs, end_closes, began_was_closed, end_not_began}
-use Rattle.txn_trace.proofs.Shaped.{callers_of, ended_in, ended_out, seat_of_mine, seat_of_other}
+use Rattle.txn_trace.proofs.Callers.{Callers, is_end, ended, is_open-ended, not_after_end, shaped_stance, shaped_number, began_or_not, began_number, at_is, not_began_is, some_same, other_runs, end_closes, began_was_closed, end_not_began}
+use Rattle.txn_trace.proofs.Shaped.{callers_of, ended_in, ended_out, stance_of_mine, stance_of_other}
 use Rattle.txn_trace.proofs.Steps.{txns_of-push, commits_are, are_listed}
 use Rattle.txn_trace.proofs.Inductions.{by_entries}
 use Rattle.txn_trace.proofs.Running.{has_txn}
@@ -76,34 +76,34 @@ abbrev opens : List Entry → ℕ
 opens h = sum_by (λ t. one_if (is_open t h)) (range_with_len 1 (how_many is_began h))
 
 abbrev in_txns : ℕ → List Entry → ℕ
-in_txns callers h = sum_by (λ c. one_if (is_running (seat_after (own c h)))) (range_with_len 0 callers)
+in_txns callers h = sum_by (λ c. one_if (is_running (stance_after (own c h)))) (range_with_len 0 callers)
 
 pub callers_in-push : (g : List Entry) (e : Entry) → callers_in (g ++ e ∷ []) ≡ max (callers_in g) (caller_of e + 1)
 callers_in-push g e = fold-append (λ n f. max n (caller_of f + 1)) 0 g (e ∷ [])
 
 module _ (n : ℕ) (g : List Entry) (e : Entry) (shape : IsShaped g) (callers : Callers g) (shaped : is_shaped g e ≡ true) (within : caller_of e < n) where
-  others_run : (d : ℕ) → d ≢ caller_of e → one_if (is_running (seat_after (own d g))) ≡ one_if (is_running (seat_after (own d (g ++ e ∷ []))))
-  others_run d other = ap (λ o. one_if (is_running o)) (sym (seat_of_other g e callers shaped d other))
+  others_run : (d : ℕ) → d ≢ caller_of e → one_if (is_running (stance_after (own d g))) ≡ one_if (is_running (stance_after (own d (g ++ e ∷ []))))
+  others_run d other = ap (λ o. one_if (is_running o)) (sym (stance_of_other g e callers shaped d other))
 
-  change : in_txns n (g ++ e ∷ []) + one_if (is_running (seat_after (own (caller_of e) g))) ≡ in_txns n g + one_if (is_running (seat_after (own (caller_of e) (g ++ e ∷ []))))
-  change = sum_at (λ d. one_if (is_running (seat_after (own d g)))) (λ d. one_if (is_running (seat_after (own d (g ++ e ∷ []))))) (caller_of e) 0 n (omega arith) (omega arith) others_run
+  change : in_txns n (g ++ e ∷ []) + one_if (is_running (stance_after (own (caller_of e) g))) ≡ in_txns n g + one_if (is_running (stance_after (own (caller_of e) (g ++ e ∷ []))))
+  change = sum_at (λ d. one_if (is_running (stance_after (own d g)))) (λ d. one_if (is_running (stance_after (own d (g ++ e ∷ []))))) (caller_of e) 0 n (omega arith) (omega arith) others_run
 
-  after_seat : seat_after (own (caller_of e) (g ++ e ∷ [])) ≡ option_and_then (λ (s : Seat). row s s.phase e) (seat_after (own (caller_of e) g))
-  after_seat = seat_of_mine g e callers shaped (caller_of e) refl
+  after_stance : stance_after (own (caller_of e) (g ++ e ∷ [])) ≡ option_and_then (λ (s : Stance). row s s.phase e) (stance_after (own (caller_of e) g))
+  after_stance = stance_of_mine g e callers shaped (caller_of e) refl
 
-  runs_after : is_end e ≡ false → one_if (is_running (seat_after (own (caller_of e) (g ++ e ∷ [])))) ≡ 1
-  runs_after goes = ap (λ o. one_if (is_running o)) after_seat ∙ ap one_if (other_runs e (seat_after (own (caller_of e) g)) goes (shaped_seat g e shaped))
+  runs_after : is_end e ≡ false → one_if (is_running (stance_after (own (caller_of e) (g ++ e ∷ [])))) ≡ 1
+  runs_after goes = ap (λ o. one_if (is_running o)) after_stance ∙ ap one_if (other_runs e (stance_after (own (caller_of e) g)) goes (shaped_stance g e shaped))
 
-  stops_after : is_end e ≡ true → one_if (is_running (seat_after (own (caller_of e) (g ++ e ∷ [])))) ≡ 0
-  stops_after ends = ap (λ o. one_if (is_running o)) (after_seat ∙ end_closes e (seat_after (own (caller_of e) g)) ends (shaped_seat g e shaped))
+  stops_after : is_end e ≡ true → one_if (is_running (stance_after (own (caller_of e) (g ++ e ∷ [])))) ≡ 0
+  stops_after ends = ap (λ o. one_if (is_running o)) (after_stance ∙ end_closes e (stance_after (own (caller_of e) g)) ends (shaped_stance g e shaped))
 
-  closed_before_it : is_began e ≡ true → one_if (is_running (seat_after (own (caller_of e) g))) ≡ 0
-  closed_before_it b = ap one_if (began_was_closed e (seat_after (own (caller_of e) g)) b (shaped_seat g e shaped))
+  closed_before_it : is_began e ≡ true → one_if (is_running (stance_after (own (caller_of e) g))) ≡ 0
+  closed_before_it b = ap one_if (began_was_closed e (stance_after (own (caller_of e) g)) b (shaped_stance g e shaped))
 
-  runs_before : is_began e ≡ false → one_if (is_running (seat_after (own (caller_of e) g))) ≡ 1
-  runs_before b = ap one_if (at (seat_after (own (caller_of e) g)) (shaped_seat g e shaped))
+  runs_before : is_began e ≡ false → one_if (is_running (stance_after (own (caller_of e) g))) ≡ 1
+  runs_before b = ap one_if (at (stance_after (own (caller_of e) g)) (shaped_stance g e shaped))
     where
-      at : (o : Option Seat) → is_some (option_and_then (λ (s : Seat). row s s.phase e) o) ≡ true → is_running o ≡ true
+      at : (o : Option Stance) → is_some (option_and_then (λ (s : Stance). row s s.phase e) o) ≡ true → is_running o ≡ true
       at None h = absurd (false≢true h)
       at (Some s) h = row_active s s.phase e b h
 
@@ -165,7 +165,7 @@ counted n h shape = by_entries (λ g. callers_in g ≤ n → opens g ≡ in_txns
     none : 0 ≤ n → 0 ≡ in_txns n []
     none low = sym (zeros 0 n)
       where
-        zeros : (a k : ℕ) → sum_by (λ c. one_if (is_running (seat_after (own c [])))) (range_with_len a k) ≡ 0
+        zeros : (a k : ℕ) → sum_by (λ c. one_if (is_running (stance_after (own c [])))) (range_with_len a k) ≡ 0
         zeros a zero = refl
         zeros a (suc k) = zeros (a + 1) k
 
@@ -179,7 +179,7 @@ counted n h shape = by_entries (λ g. callers_in g ≤ n → opens g ≡ in_txns
 pub length-open_txns : (n : ℕ) (h : List Entry) → IsShaped h → callers_in h ≤ n → length (open_txns h) ≡ length (running n h)
 length-open_txns n h shape within =
     length-filter (λ t. is_open t h) (txns_of is_began h) ∙ ap (sum_by (λ t. one_if (is_open t h))) (began_txns h shape) ∙ counted n h shape within
-    ∙ sym (length-filter (λ c. is_running (seat_after (own c h))) (range_with_len 0 n))
+    ∙ sym (length-filter (λ c. is_running (stance_after (own c h))) (range_with_len 0 n))
 
 -- If `n` is at least `callers_in h`, the number of callers below `n` that are not closed is the
 -- same as the number of those below `callers_in h`.
@@ -217,14 +217,14 @@ length-running-push g e shape shaped = elim (began_or_not e) [
     within : caller_of e < n
     within = omega (arith, grown)
 
-    changed : in_txns n (g ++ e ∷ []) + one_if (is_running (seat_after (own (caller_of e) g))) ≡ in_txns n g + one_if (is_running (seat_after (own (caller_of e) (g ++ e ∷ []))))
+    changed : in_txns n (g ++ e ∷ []) + one_if (is_running (stance_after (own (caller_of e) g))) ≡ in_txns n g + one_if (is_running (stance_after (own (caller_of e) (g ++ e ∷ []))))
     changed = change n g e shape callers shaped within
 
     after : length (running n (g ++ e ∷ [])) ≡ in_txns n (g ++ e ∷ [])
-    after = length-filter (λ c. is_running (seat_after (own c (g ++ e ∷ [])))) (range_with_len 0 n)
+    after = length-filter (λ c. is_running (stance_after (own c (g ++ e ∷ [])))) (range_with_len 0 n)
 
     before : length (running (callers_in g) g) ≡ in_txns n g
-    before = let wider : callers_in g ≤ n = omega (arith, grown) in sym (length-running n g shape wider) ∙ length-filter (λ c. is_running (seat_after (own c g))) (range_with_len 0 n)
+    before = let wider : callers_in g ≤ n = omega (arith, grown) in sym (length-running n g shape wider) ∙ length-filter (λ c. is_running (stance_after (own c g))) (range_with_len 0 n)
 
     began_goes_on : (f : Entry) → is_began f ≡ true → is_end f ≡ false
     began_goes_on f b = elim (cases_Bool (is_end f)) [ inl ends ↦ absurd (false≢true (sym (end_not_began f ends) ∙ b)) | inr goes ↦ goes ]

@@ -1,4 +1,4 @@
--- Shows what one more entry of any kind leaves unchanged, because it changes the seat, the log and
+-- Shows what one more entry of any kind leaves unchanged, because it changes the stance, the log and
 -- the run of its own caller only, unless it commits.
 use Rattle.std.proofs.Common.{◌&&◌, ◌≡◌, ◌≢◌, ℕ, ◌+◌, Bool, true, false, cond, List, [], ◌∷◌, ◌++◌, take, slice_get, refl, ap, sym, subst, ◌∙◌, Some, None, Option, is_some}
 use Rattle.std.specs.Option.{option_eq, option_and_then}
@@ -15,10 +15,10 @@ use Rattle.txn_trace.specs.Alone.{AloneRun, number_of_maps, act, alone, last_map
 use Rattle.txn_trace.specs.Serial.{serial}
 use Rattle.txn_trace.specs.Now.{now}
 use Rattle.txn_trace.specs.Locks.{holder_of, asks_in, is_locked}
-use Rattle.txn_words.specs.Shape.{Seat, row, seat_after, own, is_numbered, is_shaped, IsShaped}
+use Rattle.txn_words.specs.Shape.{Stance, row, stance_after, own, is_numbered, is_shaped, IsShaped}
 use Rattle.txn_trace.specs.Log.{Log, log_after, log_of, log_step}
 use Rattle.txn_trace.specs.Legal.{IsLegal, runs, is_running}
-use Rattle.txn_trace.proofs.Pushes.{of-push_in, of-push_out, txn_in, txn_at, alone-push, own-push_in, own-push_out, seat_after-push}
+use Rattle.txn_trace.proofs.Pushes.{of-push_in, of-push_out, txn_in, txn_at, alone-push, own-push_in, own-push_out, stance_after-push}
 use Rattle.txn_trace.proofs.Callers.{Callers, is_end, ended, not_equal}
 use Rattle.txn_trace.proofs.Shaped.{callers_of}
 use Rattle.txn_trace.proofs.Running.{Running, running_txn}
@@ -27,37 +27,37 @@ use Rattle.txn_trace.proofs.Now.{IsRunning, running_of, open_going}
 use Rattle.txn_trace.proofs.BadEntries.{legal_push, shape_push, locks_push}
 use Rattle.txn_trace.proofs.Others.{replies-push_other, now-push_same, serial_is}
 use Rattle.txn_trace.proofs.Fits.{Fits, FitsAfter, IsReply, fits_act}
-use Rattle.txn_trace.proofs.Seated.{are_seated, the_some}
+use Rattle.txn_trace.proofs.StanceRuns.{have_stances, the_some}
 use Rattle.txn_trace.proofs.Logs.{Logs, are_logged, log_after-own, log_after-other}
 use Rattle.txn_trace.proofs.Holders.{holder_of-other}
 
 -- The state after the entry `e` is added to the history `g`. The history is legal. The entry's
--- caller has the seat `seat` and the log `log`. The seats and logs of all other callers are
+-- caller has the stance `stance` and the log `log`. The stances and logs of all other callers are
 -- unchanged. The committed map is `committed`, the map `now` is `current`, and `held` gives the
 -- holder of each stripe.
-pub record Next (holder : Holder) (stripes : ℕ) (g : List Entry) (e : Entry) (seat : Seat) (log : List (ℕ × Option ℕ)) (committed current : Map) (held : ℕ → Option ℕ) : Type 0 where
+pub record Next (holder : Holder) (stripes : ℕ) (g : List Entry) (e : Entry) (stance : Stance) (log : List (ℕ × Option ℕ)) (committed current : Map) (held : ℕ → Option ℕ) : Type 0 where
   pub legal : IsLegal holder stripes (g ++ e ∷ [])
-  pub seat_is : seat_after (own (caller_of e) (g ++ e ∷ [])) ≡ Some seat
-  pub other_seats : (d : ℕ) → d ≢ caller_of e → seat_after (own d (g ++ e ∷ [])) ≡ seat_after (own d g)
+  pub stance_is : stance_after (own (caller_of e) (g ++ e ∷ [])) ≡ Some stance
+  pub other_stances : (d : ℕ) → d ≢ caller_of e → stance_after (own d (g ++ e ∷ [])) ≡ stance_after (own d g)
   pub log_is : log_of (caller_of e) (g ++ e ∷ []) ≡ log
   pub other_logs : (d : ℕ) → d ≢ caller_of e → log_of d (g ++ e ∷ []) ≡ log_of d g
   pub serial_is : serial (g ++ e ∷ []) ≡ committed
   pub now_is : now (g ++ e ∷ []) ≡ current
   pub holder_is : (s : ℕ) → holder_of stripes s (g ++ e ∷ []) ≡ held s
 
--- The own entries, the seat and the log of a caller are unchanged by an entry of another caller.
+-- The own entries, the stance and the log of a caller are unchanged by an entry of another caller.
 pub own-other : (d : ℕ) (g : List Entry) (e : Entry) → d ≢ caller_of e → own d (g ++ e ∷ []) ≡ own d g
 own-other d g e other = own-push_out d g e (not_equal d (caller_of e) other)
 
-pub seat-other : (d : ℕ) (g : List Entry) (e : Entry) → d ≢ caller_of e → seat_after (own d (g ++ e ∷ [])) ≡ seat_after (own d g)
-seat-other d g e other = ap seat_after (own-other d g e other)
+pub stance-other : (d : ℕ) (g : List Entry) (e : Entry) → d ≢ caller_of e → stance_after (own d (g ++ e ∷ [])) ≡ stance_after (own d g)
+stance-other d g e other = ap stance_after (own-other d g e other)
 
 pub log_of-other : (d : ℕ) (g : List Entry) (e : Entry) → d ≢ caller_of e → log_of d (g ++ e ∷ []) ≡ log_of d g
 log_of-other d g e other = ap (λ (l : Log). l.standing) (log_after-other d g e other)
 
--- After an entry, its caller has the seat that `row` gives, and the log that `log_step` gives.
-pub seat-own : (g : List Entry) (e : Entry) → seat_after (own (caller_of e) (g ++ e ∷ [])) ≡ option_and_then (λ s. row s s.phase e) (seat_after (own (caller_of e) g))
-seat-own g e = ap seat_after (own-push_in (caller_of e) g e refl) ∙ seat_after-push (own (caller_of e) g) e
+-- After an entry, its caller has the stance that `row` gives, and the log that `log_step` gives.
+pub stance-own : (g : List Entry) (e : Entry) → stance_after (own (caller_of e) (g ++ e ∷ [])) ≡ option_and_then (λ s. row s s.phase e) (stance_after (own (caller_of e) g))
+stance-own g e = ap stance_after (own-push_in (caller_of e) g e refl) ∙ stance_after-push (own (caller_of e) g) e
 
 pub log_of-own : (g : List Entry) (e : Entry) → log_of (caller_of e) (g ++ e ∷ []) ≡ (log_step (log_after (own (caller_of e) g)) e).standing
 log_of-own g e = ap (λ (l : Log). l.standing) (log_after-own g e)
@@ -107,20 +107,20 @@ quiet_goes (Returned c n) quiet = (refl, refl, refl)
 quiet_goes (Busy c op x) quiet = (refl, refl, refl)
 quiet_goes _ quiet = absurd (false≢true quiet)
 
-pub some_fits : (s : Seat) (o : Option AloneRun) → FitsAfter (Some s) o → is_some o ≡ true
+pub some_fits : (s : Stance) (o : Option AloneRun) → FitsAfter (Some s) o → is_some o ≡ true
 some_fits s None fits = absurd fits
 some_fits s (Some r) fits = refl
 
-module _ {holder : Holder} (stripes : ℕ) (g : List Entry) (legal : IsLegal holder stripes g) (e : Entry) (seat next : Seat) (seat_is : seat_after (own (caller_of e) g) ≡ Some seat) (goes : row seat seat.phase e ≡ Some next) (numbered : is_numbered g e ≡ true) where
+module _ {holder : Holder} (stripes : ℕ) (g : List Entry) (legal : IsLegal holder stripes g) (e : Entry) (stance next : Stance) (stance_is : stance_after (own (caller_of e) g) ≡ Some stance) (goes : row stance stance.phase e ≡ Some next) (numbered : is_numbered g e ≡ true) where
   pub callers : Callers g
   callers = callers_of g legal.shape
 
-  pub next_seat : seat_after (own (caller_of e) (g ++ e ∷ [])) ≡ Some next
-  next_seat = seat-own g e ∙ ap (option_and_then (λ (s : Seat). row s s.phase e)) seat_is ∙ goes
+  pub next_stance : stance_after (own (caller_of e) (g ++ e ∷ [])) ≡ Some next
+  next_stance = stance-own g e ∙ ap (option_and_then (λ (s : Stance). row s s.phase e)) stance_is ∙ goes
 
   -- If `row` allows the entry and the entry's number is right, the entry has the right shape.
   pub shaped_by_row : is_shaped g e ≡ true
-  shaped_by_row = and_from (is_some (seat_after (own (caller_of e) (g ++ e ∷ [])))) (is_numbered g e) (ap is_some next_seat) numbered
+  shaped_by_row = and_from (is_some (stance_after (own (caller_of e) (g ++ e ∷ [])))) (is_numbered g e) (ap is_some next_stance) numbered
 
   pub shape_next : IsShaped (g ++ e ∷ [])
   shape_next = shape_push g e legal.shape shaped_by_row
@@ -129,9 +129,9 @@ module _ {holder : Holder} (stripes : ℕ) (g : List Entry) (legal : IsLegal hol
   next_log = log_of-own g e
 
   -- Lemmas for a caller that is in a transaction.
-  module _ (active : runs seat.phase ≡ true) where
+  module _ (active : runs stance.phase ≡ true) where
     pub there : Running g (caller_of e)
-    there = running_txn g legal.shape (caller_of e) (ap is_running seat_is ∙ active)
+    there = running_txn g legal.shape (caller_of e) (ap is_running stance_is ∙ active)
 
     pub txn : ℕ
     txn = there.txn
@@ -160,11 +160,11 @@ module _ {holder : Holder} (stripes : ℕ) (g : List Entry) (legal : IsLegal hol
     unfolding run
     run_is = the_run.1
 
-    pub run_fits : Fits seat run
+    pub run_fits : Fits stance run
     run_fits =
-        let seated = are_seated g legal.shape (caller_of e) txn in_txn going in
-        let same : seated.seat ≡ seat = cc (sym seated.is ∙ seat_is) in
-        subst (λ (s : Seat). Fits s run) same (seated.fits (serial g) run run_is)
+        let its_stance = have_stances g legal.shape (caller_of e) txn in_txn going in
+        let same : its_stance.stance ≡ stance = cc (sym its_stance.is ∙ stance_is) in
+        subst (λ (s : Stance). Fits s run) same (its_stance.fits (serial g) run run_is)
 
     pub run_logs : Logs (keys_in stripes (of txn g)) (log_after (own (caller_of e) g)) run
     run_logs = are_logged stripes g legal.shape (caller_of e) txn in_txn going (serial g) run run_is
@@ -192,14 +192,14 @@ module _ {holder : Holder} (stripes : ℕ) (g : List Entry) (legal : IsLegal hol
         → Next holder stripes g e next (log_of (caller_of e) g) (serial g) (now g) held
     quiet_next held quiet locked holds =
         let kind = quiet_goes e quiet in
-        let fits : FitsAfter (Some next) (act run e) = subst (λ o. FitsAfter o (act run e)) goes (fits_act seat run e seat.phase refl kind.0 kind.1 run_fits (quiet_reply run e quiet) (ap is_some goes)) in
+        let fits : FitsAfter (Some next) (act run e) = subst (λ o. FitsAfter o (act run e)) goes (fits_act stance run e stance.phase refl kind.0 kind.1 run_fits (quiet_reply run e quiet) (ap is_some goes)) in
         let after = the_some (act run e) (some_fits next (act run e) fits) in
         let same_last : map_after (serial g) (of txn g ++ e ∷ []) ≡ map_after (serial g) (of txn g) =
         ap (last_map (serial g)) (run_next after.0 after.1) ∙ quiet_last run after.0 e quiet after.1 ∙ sym last_is in
         record {
           legal = legal_next after.0 after.1 kind.0 kind.2 locked;
-          seat_is = next_seat;
-          other_seats = λ d other. seat-other d g e other;
+          stance_is = next_stance;
+          other_stances = λ d other. stance-other d g e other;
           log_is = next_log ∙ quiet_log (log_after (own (caller_of e) g)) e quiet;
           other_logs = λ d other. log_of-other d g e other;
           serial_is = serial_next kind.0 kind.2 locked;
@@ -230,6 +230,6 @@ run-own stripes g legal e t shaped commit at =
     ∙ ap (alone (serial g)) (of-push_in t g e at) ∙ alone-push (serial g) (of t g) e
 
 -- An entry has the right shape exactly if `row` allows it and its number is right.
-pub is_shaped_is : (g : List Entry) (e : Entry) (seat : Seat) → seat_after (own (caller_of e) g) ≡ Some seat → is_shaped g e ≡ (is_some (row seat seat.phase e) && is_numbered g e)
-is_shaped_is g e seat seat_is =
-    ap (λ o. is_some o && is_numbered g e) (seat-own g e ∙ ap (option_and_then (λ (s : Seat). row s s.phase e)) seat_is)
+pub is_shaped_is : (g : List Entry) (e : Entry) (stance : Stance) → stance_after (own (caller_of e) g) ≡ Some stance → is_shaped g e ≡ (is_some (row stance stance.phase e) && is_numbered g e)
+is_shaped_is g e stance stance_is =
+    ap (λ o. is_some o && is_numbered g e) (stance-own g e ∙ ap (option_and_then (λ (s : Stance). row s s.phase e)) stance_is)

@@ -1,4 +1,4 @@
--- In a history of the right shape, a caller's seat agrees with the run of its transaction. So the
+-- In a history of the right shape, a caller's stance agrees with the run of its transaction. So the
 -- run rejects an entry of the right shape only if the entry's reply is wrong.
 use Rattle.std.proofs.Common.{◌≡◌, ℕ, zero, suc, ◌+◌, ◌-◌, ◌<◌, ◌==◌, Bool, true, false, cond, ◌&&◌, List, [], ◌∷◌, ◌++◌, map, length, take, slice_get, slice_index, refl, ap, sym, subst, ◌∙◌, Some, None, Option, is_some, arith}
 use Rattle.std.specs.Prelude.{nat_lt}
@@ -9,26 +9,26 @@ use Rattle.txn_words.specs.declared.entry.Entry.TheVariants.{Began, Asked, Did, 
 use Rattle.txn_words.specs.Map.{Map, reply_of, after, is_change}
 use Rattle.txn_words.specs.Kinds.{is_began}
 use Rattle.txn_trace.specs.Alone.{AloneRun, start, number_of_maps, with_op, act_did, act_undone, act_returned, act}
-use Rattle.txn_words.specs.declared.seat.Phase.{Phase}
-use Rattle.txn_words.specs.declared.seat.Phase.TheVariants.{Opened, Waiting, LeavingTo, LeavingToEnd}
-use Rattle.txn_words.specs.Shape.{Seat, row, changes, closed_seat}
+use Rattle.txn_words.specs.declared.stance.Phase.{Phase}
+use Rattle.txn_words.specs.declared.stance.Phase.TheVariants.{Opened, Waiting, LeavingTo, LeavingToEnd}
+use Rattle.txn_words.specs.Shape.{Stance, row, changes, closed_stance}
 use Rattle.txn_words.proofs.Effects.{changes-reply}
 use Rattle.txn_trace.proofs.Callers.{is_end}
 use Rattle.txn_trace.proofs.Now.{same_is}
 
--- What must hold for the seat and the run in this phase. If an operation waits in the seat, it
--- waits in the run. If the caller returns to a level, the seat has this level.
-abbrev pub PhaseFits : Phase → Seat → AloneRun → Type 0
+-- What must hold for the stance and the run in this phase. If an operation waits in the stance, it
+-- waits in the run. If the caller returns to a level, the stance has this level.
+abbrev pub PhaseFits : Phase → Stance → AloneRun → Type 0
 PhaseFits (Waiting op) s r = r.pending ≡ Some op
 PhaseFits (LeavingTo n) s r = n < length s.kept
 PhaseFits _ s r = Unit {0}
 
-pub record Fits (s : Seat) (r : AloneRun) : Type 0 where
+pub record Fits (s : Stance) (r : AloneRun) : Type 0 where
   pub standing : s.standing ≡ length r.earlier
   pub notes : r.notes ≡ map (λ n. n + 1) s.kept
   pub phase : PhaseFits s.phase s r
 
-abbrev pub FitsAfter : Option Seat → Option AloneRun → Type 0
+abbrev pub FitsAfter : Option Stance → Option AloneRun → Type 0
 FitsAfter None r = Unit {0}
 FitsAfter (Some s) None = ⊥
 FitsAfter (Some s) (Some r) = Fits s r
@@ -38,10 +38,10 @@ abbrev pub IsReply : AloneRun → Entry → Type 0
 IsReply r (Did c x) = (op : Op) → r.pending ≡ Some op → x ≡ reply_of r.last op
 IsReply r _ = Unit {0}
 
-pub fits_start : (m : Map) → Fits (record closed_seat { phase = Opened }) (start m)
+pub fits_start : (m : Map) → Fits (record closed_stance { phase = Opened }) (start m)
 fits_start m = record { standing = refl; notes = refl; phase = tt }
 
-did_fits : (s : Seat) (r : AloneRun) (x : Option ℕ) (op : Op) → Fits s r → x ≡ reply_of r.last op
+did_fits : (s : Stance) (r : AloneRun) (x : Option ℕ) (op : Op) → Fits s r → x ≡ reply_of r.last op
     → FitsAfter (Some (record s { phase = Opened; standing = cond (changes op x) (s.standing + 1) s.standing })) (act_did r (Some op) x)
 did_fits s r x op fits right =
     let P : Bool → Type 0 = λ t. FitsAfter (Some (record s { phase = Opened; standing = cond (changes op x) (s.standing + 1) s.standing })) (cond t (Some (record (with_op r op) { pending = None })) None) in
@@ -54,7 +54,7 @@ did_fits s r x op fits right =
       | false ↦ record { standing = fits.standing; notes = fits.notes; phase = tt }
     ]))
 
-undone_fits : (s s' : Seat) (r : AloneRun) (ms : List Map) → 0 < s.standing → s'.standing ≡ s.standing - 1 → s'.kept ≡ s.kept → s.standing ≡ length ms → r.notes ≡ map (λ n. n + 1) s.kept → ((q : AloneRun) → q.pending ≡ r.pending → PhaseFits s'.phase s' q) → FitsAfter (Some s') (act_undone r ms)
+undone_fits : (s s' : Stance) (r : AloneRun) (ms : List Map) → 0 < s.standing → s'.standing ≡ s.standing - 1 → s'.kept ≡ s.kept → s.standing ≡ length ms → r.notes ≡ map (λ n. n + 1) s.kept → ((q : AloneRun) → q.pending ≡ r.pending → PhaseFits s'.phase s' q) → FitsAfter (Some s') (act_undone r ms)
 undone_fits s s' r [] some less kept is notes phase = absurd (omega arith)
 undone_fits s s' r (m ∷ ms) some less kept is notes phase = record {
   standing = omega arith;
@@ -76,7 +76,7 @@ map-push : (xs : List ℕ) (y : ℕ) → map (λ n. n + 1) (xs ++ y ∷ []) ≡ 
 map-push [] y = refl
 map-push (x ∷ xs) y = ap (λ ys. (x + 1) ∷ ys) (map-push xs y)
 
-returned_fits : (s : Seat) (r : AloneRun) (n m : ℕ) → Fits s r → n < length s.kept → n ≡ m → slice_index s.kept n ≡ s.standing → FitsAfter (Some (record s { phase = Opened; kept = take (n + 1) s.kept })) (act_returned r m)
+returned_fits : (s : Stance) (r : AloneRun) (n m : ℕ) → Fits s r → n < length s.kept → n ≡ m → slice_index s.kept n ≡ s.standing → FitsAfter (Some (record s { phase = Opened; kept = take (n + 1) s.kept })) (act_returned r m)
 returned_fits s r n m fits within level kept =
     let noted : slice_get r.notes m ≡ Some (number_of_maps r) =
     ap (λ l. slice_get l m) fits.notes ∙ ap (slice_get (map (λ n. n + 1) s.kept)) (sym level) ∙ noted_at n s.kept within ∙ ap (λ x. Some (x + 1)) (kept ∙ fits.standing) in
@@ -87,9 +87,9 @@ when : {A : Type 0} (b : Bool) (x : A) → is_some (cond b (Some x) None) ≡ tr
 when true x h = refl
 when false x h = absurd (false≢true h)
 
--- If `row` allows an entry in a seat that fits the run, and the entry's reply is right, the run
--- allows the entry too. Afterwards, the seat still fits the run.
-pub fits_act : (s : Seat) (r : AloneRun) (e : Entry) (q : Phase) → s.phase ≡ q → is_began e ≡ false → is_end e ≡ false → Fits s r → IsReply r e → is_some (row s q e) ≡ true → FitsAfter (row s q e) (act r e)
+-- If `row` allows an entry in a stance that fits the run, and the entry's reply is right, the run
+-- allows the entry too. Afterwards, the stance still fits the run.
+pub fits_act : (s : Stance) (r : AloneRun) (e : Entry) (q : Phase) → s.phase ≡ q → is_began e ≡ false → is_end e ≡ false → Fits s r → IsReply r e → is_some (row s q e) ≡ true → FitsAfter (row s q e) (act r e)
 fits_act s r (Began c t) q at b n fits right h = absurd (false≢true (sym b))
 fits_act s r (Committed c p) q at b n fits right h = absurd (false≢true (sym n))
 fits_act s r (Aborted c) q at b n fits right h = absurd (false≢true (sym n))
@@ -114,7 +114,7 @@ fits_act s r (Undone c) (LeavingTo k) at b n fits right h =
     let yes_it = when (nat_lt (slice_index s.kept k) s.standing) _ h in
     let more = ltb-true (slice_index s.kept k) s.standing yes_it in
     let within : k < length s.kept = subst (λ q. PhaseFits q s r) at fits.phase in
-    let s' : Seat = record s { standing = s.standing - 1 } in
+    let s' : Stance = record s { standing = s.standing - 1 } in
     subst (λ t. FitsAfter (cond t (Some s') None) (act_undone r r.earlier)) (sym yes_it)
     (undone_fits s s' r r.earlier (omega arith) refl refl fits.standing fits.notes (λ q same. subst (λ x. PhaseFits x s' q) (sym at) within))
 fits_act s r (Returned c m) (LeavingTo k) at b n fits right h =
@@ -125,7 +125,7 @@ fits_act s r (Returned c m) (LeavingTo k) at b n fits right h =
     (returned_fits s r k m fits within (eqb-true k m parts.0) (eqb-true (slice_index s.kept k) s.standing parts.1))
 fits_act s r (Undone c) LeavingToEnd at b n fits right h =
     let yes_it = when (nat_lt 0 s.standing) _ h in
-    let s' : Seat = record s { standing = s.standing - 1 } in
+    let s' : Stance = record s { standing = s.standing - 1 } in
     subst (λ t. FitsAfter (cond t (Some s') None) (act_undone r r.earlier)) (sym yes_it)
     (undone_fits s s' r r.earlier (ltb-true 0 s.standing yes_it) refl refl fits.standing fits.notes (λ q same. subst (λ x. PhaseFits x s' q) (sym at) tt))
 fits_act s r _ q at b n fits right h = absurd (false≢true h)

@@ -17,8 +17,8 @@ use Rattle.txn_words.specs.Kinds.{is_commit, caller_of}
 use Rattle.txn_trace.specs.Alone.{map_after, AloneRun, alone}
 use Rattle.txn_trace.specs.Serial.{serial}
 use Rattle.txn_trace.specs.Locks.{stripe_of, asks_in, is_in_open, holders, holder_of, LocksHold}
-use Rattle.txn_words.specs.declared.seat.Phase.TheVariants.{Waiting}
-use Rattle.txn_words.specs.Shape.{Seat, seat_after, own, IsShaped, is_shaped}
+use Rattle.txn_words.specs.declared.stance.Phase.TheVariants.{Waiting}
+use Rattle.txn_words.specs.Shape.{Stance, stance_after, own, IsShaped, is_shaped}
 use Rattle.txn_trace.specs.Log.{log_after, log_of}
 use Rattle.txn_trace.specs.Legal.{IsLegal, runs, is_running}
 use Rattle.txn_trace.proofs.Pushes.{txn_in, txn_at, of_is}
@@ -30,8 +30,8 @@ use Rattle.txn_trace.proofs.Now.{open_going, going_open, running_of, now_at-push
 use Rattle.txn_trace.proofs.Table.{get-now}
 use Rattle.txn_trace.proofs.Others.{now_at-push_else}
 use Rattle.txn_trace.proofs.Undoing.{IsLogged}
-use Rattle.txn_trace.proofs.Logs.{Logs, are_logged, seat_logged, PhaseLogged}
-use Rattle.txn_trace.proofs.Seated.{the_some}
+use Rattle.txn_trace.proofs.Logs.{Logs, are_logged, stance_logged, PhaseLogged}
+use Rattle.txn_trace.proofs.StanceRuns.{the_some}
 use Rattle.txn_trace.proofs.Running.{Running, running_txn, has_txn}
 use Rattle.txn_trace.proofs.Holders.{AreSame, one_holder}
 
@@ -78,7 +78,7 @@ jobs_pass keys P to [] last ms is = tt
 jobs_pass keys P to (job ∷ jobs) last [] is = absurd is
 jobs_pass keys P to (job ∷ jobs) last (m ∷ ms) is = (to job.0 is.0, jobs_pass keys P to jobs m ms is.3)
 
-module _ {holder : Holder} (stripes : ℕ) (g : List Entry) (legal : IsLegal holder stripes g) (c : ℕ) (active : is_running (seat_after (own c g)) ≡ true) where
+module _ {holder : Holder} (stripes : ℕ) (g : List Entry) (legal : IsLegal holder stripes g) (c : ℕ) (active : is_running (stance_after (own c g)) ≡ true) where
   there : Running g c
   there = running_txn g legal.shape c active
 
@@ -97,12 +97,12 @@ module _ {holder : Holder} (stripes : ℕ) (g : List Entry) (legal : IsLegal hol
   running_waits_held op pending = key_held (key_of op) (subst (WaitsFor (keys_in stripes (of there.txn g))) (sym log_and_run.1.pending ∙ pending) log_and_run.1.waits)
 
 -- In a legal history a caller that waits holds the stripe of its operation.
-pub waiting_held : {holder : Holder} (stripes : ℕ) (g : List Entry) → IsLegal holder stripes g → (c : ℕ) (op : Op) (seat : Seat) → seat_after (own c g) ≡ Some seat → seat.phase ≡ Waiting op → holder_of stripes (stripe_of stripes (key_of op)) g ≡ Some c
-waiting_held stripes g legal c op seat seat_is waits =
-    running_waits_held stripes g legal c (ap is_running seat_is ∙ ap runs waits) op (subst (λ q. PhaseLogged q (log_after (own c g))) waits (seat_logged (own c g) seat seat_is).phase)
+pub waiting_held : {holder : Holder} (stripes : ℕ) (g : List Entry) → IsLegal holder stripes g → (c : ℕ) (op : Op) (stance : Stance) → stance_after (own c g) ≡ Some stance → stance.phase ≡ Waiting op → holder_of stripes (stripe_of stripes (key_of op)) g ≡ Some c
+waiting_held stripes g legal c op stance stance_is waits =
+    running_waits_held stripes g legal c (ap is_running stance_is ∙ ap runs waits) op (subst (λ q. PhaseLogged q (log_after (own c g))) waits (stance_logged (own c g) stance stance_is).phase)
 
 -- In a legal history a caller in a transaction holds the stripe of each of its standing changes.
-pub log_held : {holder : Holder} (stripes : ℕ) (g : List Entry) → IsLegal holder stripes g → (c : ℕ) → is_running (seat_after (own c g)) ≡ true → AllHeldBy stripes g c (log_of c g)
+pub log_held : {holder : Holder} (stripes : ℕ) (g : List Entry) → IsLegal holder stripes g → (c : ℕ) → is_running (stance_after (own c g)) ≡ true → AllHeldBy stripes g c (log_of c g)
 log_held stripes g legal c active = running_log_held stripes g legal c active
 
 -- If the stripes of two keys have different holders, the keys are different.
@@ -162,7 +162,7 @@ pub holder_txn : (stripes : ℕ) (g : List Entry) → IsShaped g → (s c : ℕ)
 holder_txn stripes g shape s c held = first_line stripes s g c (lines_of g) [] refl (callers_of g shape).owned held
 
 -- The holder of a stripe is in a transaction. So a closed caller holds no stripe.
-pub holder_running : (stripes : ℕ) (g : List Entry) → IsShaped g → (s c : ℕ) → holder_of stripes s g ≡ Some c → is_running (seat_after (own c g)) ≡ true
+pub holder_running : (stripes : ℕ) (g : List Entry) → IsShaped g → (s c : ℕ) → holder_of stripes s g ≡ Some c → is_running (stance_after (own c g)) ≡ true
 holder_running stripes g shape s c held = let there = holder_txn stripes g shape s c held in (callers_of g shape).running c there.txn there.in_it there.going
 
 -- If a caller other than the entry's caller holds the stripe of a key, the entry does not change

@@ -12,7 +12,7 @@ pub mod Table
 pub mod BadEntries
 pub mod Others
 pub mod Fits
-pub mod Seated
+pub mod StanceRuns
 pub mod Acting
 pub mod Undoing
 pub mod Logs

@@ -1,4 +1,4 @@
--- Shows that the log of a caller agrees with its seat and with the run of its transaction, because
+-- Shows that the log of a caller agrees with its stance and with the run of its transaction, because
 -- each entry changes all three alike.
 use Rattle.std.proofs.Common.{◌≡◌, ◌≢◌, ℕ, ◌+◌, ◌-◌, ◌==◌, ◌&&◌, Bool, true, false, cond, List, [], ◌∷◌, ◌++◌, length, take, drop, slice_get, slice_index, refl, ap, sym, subst, ◌∙◌, Some, None, Option, arith}
 use Rattle.std.specs.Prelude.{nat_eq, nat_lt}
@@ -15,9 +15,9 @@ use Rattle.txn_trace.specs.History.{of}
 use Rattle.txn_words.specs.Kinds.{caller_of, is_began}
 use Rattle.txn_trace.specs.Alone.{AloneRun, start, number_of_maps, with_op, act_did, act_undone, act, alone}
 use Rattle.txn_trace.specs.Locks.{asks_in, stripe_of}
-use Rattle.txn_words.specs.declared.seat.Phase.{Phase}
-use Rattle.txn_words.specs.declared.seat.Phase.TheVariants.{Closed, Opened, Waiting, LeavingTo, LeavingToEnd}
-use Rattle.txn_words.specs.Shape.{Seat, row, seat_after, closed_seat, changes, own, is_shaped, IsShaped}
+use Rattle.txn_words.specs.declared.stance.Phase.{Phase}
+use Rattle.txn_words.specs.declared.stance.Phase.TheVariants.{Closed, Opened, Waiting, LeavingTo, LeavingToEnd}
+use Rattle.txn_words.specs.Shape.{Stance, row, stance_after, closed_stance, changes, own, is_shaped, IsShaped}
 use Rattle.txn_trace.specs.Log.{Log, no_log, log_did, log_step, log_after}
 use Rattle.txn_trace.proofs.Pushes.{txn_in, txn_at, of-push_in, of-push_out, own-push_in, own-push_out, alone-push}
 use Rattle.txn_trace.proofs.Callers.{Callers, is_end, ended, in_or_out, began_or_not, at_is, not_began_is, not_equal}
@@ -26,7 +26,7 @@ use Rattle.txn_trace.proofs.Local.{WaitsFor, AsksFor}
 use Rattle.txn_trace.proofs.Stripes.{keys_in}
 use Rattle.txn_trace.proofs.Now.{same_option}
 use Rattle.txn_words.proofs.Effects.{changes-reply}
-use Rattle.txn_trace.proofs.Seated.{none_before, AreSeated, seated_push, alone_began}
+use Rattle.txn_trace.proofs.StanceRuns.{none_before, HaveStances, stances_push, alone_began}
 use Rattle.txn_trace.proofs.Undoing.{IsLogged, logged_add}
 use Rattle.txn_trace.proofs.Inductions.{by_entries}
 
@@ -46,30 +46,30 @@ abbrev pub PhaseLogged : Phase → Log → Type 0
 PhaseLogged (Waiting op) log = log.pending ≡ Some op
 PhaseLogged _ log = Unit {0}
 
--- The number of changes in the log is the seat's number of standing changes. If the seat waits for
+-- The number of changes in the log is the stance's number of standing changes. If the stance waits for
 -- the reply to an operation, this operation waits in the log too.
-pub record SeatLogged (s : Seat) (log : Log) : Type 0 where
+pub record StanceLogged (s : Stance) (log : Log) : Type 0 where
   pub count : length log.standing ≡ s.standing
   pub phase : PhaseLogged s.phase log
 
-abbrev pub LoggedAfter : Option Seat → Log → Type 0
+abbrev pub LoggedAfter : Option Stance → Log → Type 0
 LoggedAfter None log = Unit {0}
-LoggedAfter (Some s) log = SeatLogged s log
+LoggedAfter (Some s) log = StanceLogged s log
 
 one_less : {A : Type 0} (xs : List A) → length (drop 1 xs) ≡ length xs - 1
 one_less [] = refl
 one_less (x ∷ xs) = omega arith
 
-kept_if : (b : Bool) (s : Seat) (log : Log) → SeatLogged s log → LoggedAfter (cond b (Some s) None) log
+kept_if : (b : Bool) (s : Stance) (log : Log) → StanceLogged s log → LoggedAfter (cond b (Some s) None) log
 kept_if true s log is = is
 kept_if false s log is = tt
 
-noted_if : (b : Bool) (s : Seat) (jobs : List (ℕ × Option ℕ)) (job : ℕ × Option ℕ) → length jobs ≡ s.standing
-    → SeatLogged (record s { phase = Opened; standing = cond b (s.standing + 1) s.standing }) (record { pending = None; standing = cond b (job ∷ jobs) jobs })
+noted_if : (b : Bool) (s : Stance) (jobs : List (ℕ × Option ℕ)) (job : ℕ × Option ℕ) → length jobs ≡ s.standing
+    → StanceLogged (record s { phase = Opened; standing = cond b (s.standing + 1) s.standing }) (record { pending = None; standing = cond b (job ∷ jobs) jobs })
 noted_if true s jobs job is = record { count = omega arith; phase = tt }
 noted_if false s jobs job is = record { count = is; phase = tt }
 
-row_logged : (s : Seat) (log : Log) (e : Entry) (q : Phase) → s.phase ≡ q → SeatLogged s log → LoggedAfter (row s q e) (log_step log e)
+row_logged : (s : Stance) (log : Log) (e : Entry) (q : Phase) → s.phase ≡ q → StanceLogged s log → LoggedAfter (row s q e) (log_step log e)
 row_logged s log (Began c t) Closed at is = record { count = refl; phase = tt }
 row_logged s log (Asked c op) Opened at is = record { count = is.count; phase = refl }
 row_logged s log (Busy c op x) Opened at is = record { count = is.count; phase = tt }
@@ -79,7 +79,7 @@ row_logged s log (Leave c (Some n)) Opened at is = kept_if (nat_lt n (length s.k
 row_logged s log (Committed c p) Opened at is = record { count = refl; phase = tt }
 row_logged s log (Did c r) (Waiting op) at is =
     let waits : log.pending ≡ Some op = subst (λ q. PhaseLogged q log) at is.phase in
-    subst (λ p. SeatLogged (record s { phase = Opened; standing = cond (changes op r) (s.standing + 1) s.standing }) (log_did log p r)) (sym waits)
+    subst (λ p. StanceLogged (record s { phase = Opened; standing = cond (changes op r) (s.standing + 1) s.standing }) (log_did log p r)) (sym waits)
     (noted_if (changes op r) s log.standing (key_of op, r) is.count)
 row_logged s log (Leave c None) (Waiting op) at is = record { count = is.count; phase = tt }
 row_logged s log (Undone c) (LeavingTo n) at is =
@@ -89,17 +89,17 @@ row_logged s log (Returned c m) (LeavingTo n) at is = kept_if ((n == m) && (slic
 row_logged s log (Undone c) LeavingToEnd at is =
     kept_if (nat_lt 0 s.standing) (record s { standing = s.standing - 1 }) (record log { standing = drop 1 log.standing })
     (record { count = one_less log.standing ∙ ap (λ n. n - 1) is.count; phase = subst (λ x. PhaseLogged x (record log { standing = drop 1 log.standing })) (sym at) tt })
-row_logged s log (Aborted c) LeavingToEnd at is = kept_if (s.standing == 0) closed_seat no_log (record { count = refl; phase = tt })
+row_logged s log (Aborted c) LeavingToEnd at is = kept_if (s.standing == 0) closed_stance no_log (record { count = refl; phase = tt })
 row_logged s log _ q at is = tt
 
-fold_logged : (es : List Entry) (o : Option Seat) (log : Log) → LoggedAfter o log → LoggedAfter (fold (λ seat e. option_and_then (λ s. row s s.phase e) seat) o es) (fold log_step log es)
+fold_logged : (es : List Entry) (o : Option Stance) (log : Log) → LoggedAfter o log → LoggedAfter (fold (λ stance e. option_and_then (λ s. row s s.phase e) stance) o es) (fold log_step log es)
 fold_logged [] o log is = is
 fold_logged (e ∷ es) None log is = fold_logged es None (log_step log e) tt
 fold_logged (e ∷ es) (Some s) log is = fold_logged es (row s s.phase e) (log_step log e) (row_logged s log e s.phase refl is)
 
--- A caller's own entries give it a seat and a log. The two agree.
-pub seat_logged : (es : List Entry) (s : Seat) → seat_after es ≡ Some s → SeatLogged s (log_after es)
-seat_logged es s is = subst (λ o. LoggedAfter o (log_after es)) is (fold_logged es (Some closed_seat) no_log (record { count = refl; phase = tt }))
+-- A caller's own entries give it a stance and a log. The two agree.
+pub stance_logged : (es : List Entry) (s : Stance) → stance_after es ≡ Some s → StanceLogged s (log_after es)
+stance_logged es s is = subst (λ o. LoggedAfter o (log_after es)) is (fold_logged es (Some closed_stance) no_log (record { count = refl; phase = tt }))
 
 -- The log agrees with the run. The same operation waits in both. For each map of the run except the
 -- first, the log has the change that made this map. The keys of the waiting operation and of the
@@ -202,10 +202,10 @@ some_before : (o : Option AloneRun) (e : Entry) (r : AloneRun) → option_and_th
 some_before None e r is = absurd (cc (is))
 some_before (Some q) e r is = (q, refl, is)
 
-module _ (stripes : ℕ) (g : List Entry) (e : Entry) (callers : Callers g) (shaped : is_shaped g e ≡ true) (seated : AreSeated g) (logged : AreLogged stripes g) where
+module _ (stripes : ℕ) (g : List Entry) (e : Entry) (callers : Callers g) (shaped : is_shaped g e ≡ true) (its_stance : HaveStances g) (logged : AreLogged stripes g) where
   logged_began : (c t : ℕ) → c ≡ caller_of e → txn_at g e ≡ Some t → is_began e ≡ true → (m : Map) (r : AloneRun) → alone m (of t (g ++ e ∷ [])) ≡ Some r → Logs (keys_in stripes (of t (g ++ e ∷ []))) (log_after (own c (g ++ e ∷ []))) r
   logged_began c t mine at b m r run =
-      let entries : of t (g ++ e ∷ []) ≡ e ∷ [] = of-push_in t g e at ∙ ap (λ xs. xs ++ e ∷ []) (none_before g e callers shaped seated t b at) in
+      let entries : of t (g ++ e ∷ []) ≡ e ∷ [] = of-push_in t g e at ∙ ap (λ xs. xs ++ e ∷ []) (none_before g e callers shaped its_stance t b at) in
       let same_run : start m ≡ r = cc (sym (alone_began m e b) ∙ ap (alone m) (sym entries) ∙ run) in
       let log : log_after (own c (g ++ e ∷ [])) ≡ log_step (log_after (own (caller_of e) g)) e = ap (λ d. log_after (own d (g ++ e ∷ []))) mine ∙ log_after-own g e in
       subst (λ es. Logs (keys_in stripes es) (log_after (own c (g ++ e ∷ []))) r) (sym entries)
@@ -245,7 +245,7 @@ module _ (stripes : ℕ) (g : List Entry) (e : Entry) (callers : Callers g) (sha
 -- In a history of the right shape, the log of each caller agrees with the run of its open
 -- transaction.
 pub are_logged : (stripes : ℕ) (g : List Entry) → IsShaped g → AreLogged stripes g
-are_logged stripes g shape = (by_entries (λ h. AreSeated h × AreLogged stripes h) push ((λ c t is going. absurd (cc (is))), λ c t is going. absurd (cc (is))) g shape).1
+are_logged stripes g shape = (by_entries (λ h. HaveStances h × AreLogged stripes h) push ((λ c t is going. absurd (cc (is))), λ c t is going. absurd (cc (is))) g shape).1
   where
-    push : (g : List Entry) (e : Entry) → IsShaped g → Callers g → is_shaped g e ≡ true → (AreSeated g × AreLogged stripes g) → AreSeated (g ++ e ∷ []) × AreLogged stripes (g ++ e ∷ [])
-    push g e shape callers shaped was = (seated_push g e callers shaped was.0, logged_push stripes g e callers shaped was.0 was.1)
+    push : (g : List Entry) (e : Entry) → IsShaped g → Callers g → is_shaped g e ≡ true → (HaveStances g × AreLogged stripes g) → HaveStances (g ++ e ∷ []) × AreLogged stripes (g ++ e ∷ [])
+    push g e shape callers shaped was = (stances_push g e callers shaped was.0, logged_push stripes g e callers shaped was.0 was.1)

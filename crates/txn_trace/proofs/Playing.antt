@@ -10,7 +10,7 @@ use Rattle.txn_trace.proofs.Pushes.{txn_in, of-push_in, of-push_out, own-push_in
 use Rattle.txn_trace.proofs.Callers.{Callers, at_is, began_or_not, not_began_is, not_equal}
 use Rattle.txn_trace.proofs.Shaped.{step, same as one_caller}
 use Rattle.txn_trace.proofs.Inductions.{by_entries}
-use Rattle.txn_trace.proofs.Seated.{none_before, are_seated}
+use Rattle.txn_trace.proofs.StanceRuns.{none_before, have_stances}
 
 -- If one more entry is added to a caller's entries, `part_after` gives the new parts.
 pub parts_of-push : (es : List Entry) (e : Entry) → parts_of (es ++ e ∷ []) ≡ part_after (parts_of es) e
@@ -36,7 +36,7 @@ last_part_push c g e shape callers shaped last t at = elim (step g e callers sha
       let longer : of t (g ++ e ∷ []) ≡ of t g ++ e ∷ [] = of-push_in t g e w.1 in
       elim (began_or_not e) [
         | inl b ↦
-            let none : of t g ≡ [] = none_before g e callers shaped (are_seated g shape) t b w.1 in
+            let none : of t g ≡ [] = none_before g e callers shaped (have_stances g shape) t b w.1 in
             (parts_of (own c g), mine ∙ part-began (parts_of (own c g)) e b ∙ ap (λ es. (es ++ e ∷ []) ∷ parts_of (own c g)) (sym none) ∙ ap (λ es. es ∷ parts_of (own c g)) (sym longer))
         | inr b ↦
             let (parts, is) = last t (subst (λ x. txn_in g x ≡ Some t) (sym w.0) (not_began_is g e t b (at_is g e t w.1))) in

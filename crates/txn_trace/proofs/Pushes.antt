@@ -1,5 +1,5 @@
 -- How one more entry changes what is computed from a history: its lines, its transactions, its runs
--- and its seats.
+-- and its stances.
 use Rattle.std.proofs.Common.{◌≡◌, ℕ, ◌+◌, Bool, true, false, cond, ◌==◌, List, [], ◌∷◌, ◌++◌, map, length, refl, ap, ◌∙◌, Some, None, Option, length-append}
 use Rattle.std.specs.Option.{option_eq, option_and_then}
 use Rattle.std.specs.List.{filter, fold}
@@ -13,7 +13,7 @@ use Rattle.txn_words.specs.Map.{Map}
 use Rattle.txn_trace.specs.History.{Line, txn_after, lines_from, lines_of, is_of, of, ends_in}
 use Rattle.txn_words.specs.Kinds.{caller_of}
 use Rattle.txn_trace.specs.Alone.{act, alone}
-use Rattle.txn_words.specs.Shape.{row, seat_after, own, how_many}
+use Rattle.txn_words.specs.Shape.{row, stance_after, own, how_many}
 use Rattle.txn_trace.proofs.Lists.{map_one}
 
 abbrev pub no_txn : ℕ → Option ℕ
@@ -70,8 +70,8 @@ ends_in-push test es e = fold-append (λ x f. test f) false es (e ∷ [])
 pub alone-push : (m : Map) (es : List Entry) (e : Entry) → alone m (es ++ e ∷ []) ≡ option_and_then (λ r. act r e) (alone m es)
 alone-push m es e = fold-append (λ run f. option_and_then (λ r. act r f) run) _ es (e ∷ [])
 
-pub seat_after-push : (es : List Entry) (e : Entry) → seat_after (es ++ e ∷ []) ≡ option_and_then (λ s. row s s.phase e) (seat_after es)
-seat_after-push es e = fold-append (λ seat f. option_and_then (λ s. row s s.phase f) seat) _ es (e ∷ [])
+pub stance_after-push : (es : List Entry) (e : Entry) → stance_after (es ++ e ∷ []) ≡ option_and_then (λ s. row s s.phase e) (stance_after es)
+stance_after-push es e = fold-append (λ stance f. option_and_then (λ s. row s s.phase f) stance) _ es (e ∷ [])
 
 pub own-push_in : (c : ℕ) (g : List Entry) (e : Entry) → caller_of e ≡ c → own c (g ++ e ∷ []) ≡ own c g ++ e ∷ []
 own-push_in c g e is = filter-append (λ f. caller_of f == c) g (e ∷ []) ∙ ap (λ b. own c g ++ cond b (e ∷ []) []) (eq-eqb (caller_of e) c is)

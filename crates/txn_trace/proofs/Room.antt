@@ -14,15 +14,15 @@ use Rattle.txn_words.specs.declared.step.Step.{Step}
 use Rattle.txn_words.specs.declared.step.Step.TheVariants.{Begin, Ask, Act, Save, Back, Commit, Abort}
 use Rattle.txn_words.specs.Entries.{entries_of}
 use Rattle.txn_words.specs.Kinds.{caller_of}
-use Rattle.txn_words.specs.declared.seat.Phase.{Phase}
-use Rattle.txn_words.specs.declared.seat.Phase.TheVariants.{Closed, Opened, Waiting, LeavingTo, LeavingToEnd}
-use Rattle.txn_words.specs.Shape.{Seat, closed_seat, changes, row, seat_after, own, is_shaped, IsShaped}
+use Rattle.txn_words.specs.declared.stance.Phase.{Phase}
+use Rattle.txn_words.specs.declared.stance.Phase.TheVariants.{Closed, Opened, Waiting, LeavingTo, LeavingToEnd}
+use Rattle.txn_words.specs.Shape.{Stance, closed_stance, changes, row, stance_after, own, is_shaped, IsShaped}
 use Rattle.txn_words.specs.Owed.{owed_for, owed_in, owed_by, owed, reserved}
-use Rattle.txn_trace.proofs.Callers.{shaped_seat}
-use Rattle.txn_trace.proofs.Pushes.{own-push_in, seat_after-push}
-use Rattle.txn_trace.proofs.EntrySteps.{seat-other}
-use Rattle.txn_trace.proofs.Running.{has_seat}
-use Rattle.txn_trace.proofs.Seated.{the_some}
+use Rattle.txn_trace.proofs.Callers.{shaped_stance}
+use Rattle.txn_trace.proofs.Pushes.{own-push_in, stance_after-push}
+use Rattle.txn_trace.proofs.EntrySteps.{stance-other}
+use Rattle.txn_trace.proofs.Running.{has_stance}
+use Rattle.txn_trace.proofs.StanceRuns.{the_some}
 use Rattle.txn_trace.proofs.Sums.{sum_at}
 
 -- The number of places that are reserved before an entry: one for the entry itself, and one for
@@ -50,11 +50,11 @@ reserved_enough (Commit c) (answers.Committed p) = (omega arith, tt)
 reserved_enough (Abort c) answers.Leaving = (omega arith, tt)
 reserved_enough step answer = tt
 
-abbrev pub FitsIn : ℕ → Option Seat → Type 0
+abbrev pub FitsIn : ℕ → Option Stance → Type 0
 FitsIn room None = Unit {0}
 FitsIn room (Some s) = owed_in s.standing s.phase + 1 ≤ room
 
-fits_if : (room : ℕ) (b : Bool) (s : Seat) → (b ≡ true → owed_in s.standing s.phase + 1 ≤ room) → FitsIn room (cond b (Some s) None)
+fits_if : (room : ℕ) (b : Bool) (s : Stance) → (b ≡ true → owed_in s.standing s.phase + 1 ≤ room) → FitsIn room (cond b (Some s) None)
 fits_if room true s is = is refl
 fits_if room false s is = tt
 
@@ -64,7 +64,7 @@ did_fits_in s (Take k) r = elim (is_some r) as (λ b. 2 + cond b (s + 1) s + 1 �
 did_fits_in s (Get k) r = omega arith
 did_fits_in s (PutIf k expected v) r = elim (option_eq nat_eq r expected) as (λ b. 2 + cond b (s + 1) s + 1 ≤ 2 + s + 2 + 0) [ true ↦ omega arith | false ↦ omega arith ]
 
-row_fits : (s : Seat) (q : Phase) (e : Entry) → s.phase ≡ q → FitsIn (owed_in s.standing q + reserved_for e) (row s q e)
+row_fits : (s : Stance) (q : Phase) (e : Entry) → s.phase ≡ q → FitsIn (owed_in s.standing q + reserved_for e) (row s q e)
 row_fits s Closed (Began c t) at = omega arith
 row_fits s Opened (Asked c op) at = omega arith
 row_fits s Opened (Busy c op x) at = omega arith
@@ -81,12 +81,12 @@ row_fits s (LeavingTo n) (Returned c m) at = fits_if (3 + s.standing + 0) ((n ==
 row_fits s LeavingToEnd (Undone c) at = fits_if (1 + s.standing + 0) (nat_lt 0 s.standing) (record s { standing = s.standing - 1 }) (λ b.
     let some = ltb-true 0 s.standing b in
     subst (λ q. owed_in (s.standing - 1) q + 1 ≤ 1 + s.standing + 0) (sym at) (omega arith))
-row_fits s LeavingToEnd (Aborted c) at = fits_if (1 + s.standing + 0) (s.standing == 0) closed_seat (λ b. omega arith)
+row_fits s LeavingToEnd (Aborted c) at = fits_if (1 + s.standing + 0) (s.standing == 0) closed_stance (λ b. omega arith)
 row_fits s q e at = tt
 
 -- For the caller of an entry: `owed_by` after the entry, plus 1, is at most `owed_by` before the
 -- entry plus `reserved_for` of the entry.
-pub owed_by-row : (s next : Seat) (e : Entry) → row s s.phase e ≡ Some next → owed_by (Some next) + 1 ≤ owed_by (Some s) + reserved_for e
+pub owed_by-row : (s next : Stance) (e : Entry) → row s s.phase e ≡ Some next → owed_by (Some next) + 1 ≤ owed_by (Some s) + reserved_for e
 owed_by-row s next e is = subst (FitsIn (owed_in s.standing s.phase + reserved_for e)) is (row_fits s s.phase e refl)
 
 -- For all callers together: `owed` after an entry, plus 1, is at most `owed` before the entry plus
@@ -94,14 +94,14 @@ owed_by-row s next e is = subst (FitsIn (owed_in s.standing s.phase + reserved_f
 pub owed-push : (callers : ℕ) (g : List Entry) (e : Entry) → IsShaped g → is_shaped g e ≡ true → caller_of e < callers → owed callers (g ++ e ∷ []) + 1 ≤ owed callers g + reserved_for e
 owed-push callers g e shape shaped within =
     let c : ℕ = caller_of e in
-    let before = the_some (seat_after (own c g)) (has_seat g shape c) in
-    let goes : is_some (row before.0 before.0.phase e) ≡ true = subst (λ o. is_some (option_and_then (λ (s : Seat). row s s.phase e) o) ≡ true) before.1 (shaped_seat g e shaped) in
+    let before = the_some (stance_after (own c g)) (has_stance g shape c) in
+    let goes : is_some (row before.0 before.0.phase e) ≡ true = subst (λ o. is_some (option_and_then (λ (s : Stance). row s s.phase e) o) ≡ true) before.1 (shaped_stance g e shaped) in
     let next = the_some (row before.0 before.0.phase e) goes in
-    let after : seat_after (own c (g ++ e ∷ [])) ≡ Some next.0 =
-    ap seat_after (own-push_in c g e refl) ∙ seat_after-push (own c g) e ∙ ap (option_and_then (λ (s : Seat). row s s.phase e)) before.1 ∙ next.1 in
-    let f : ℕ → ℕ = λ d. owed_by (seat_after (own d g)) in
-    let f' : ℕ → ℕ = λ d. owed_by (seat_after (own d (g ++ e ∷ []))) in
-    let sums : owed callers (g ++ e ∷ []) + f c ≡ owed callers g + f' c = sum_at f f' c 0 callers (omega arith) (omega arith) (λ d other. ap owed_by (sym (seat-other d g e other))) in
+    let after : stance_after (own c (g ++ e ∷ [])) ≡ Some next.0 =
+    ap stance_after (own-push_in c g e refl) ∙ stance_after-push (own c g) e ∙ ap (option_and_then (λ (s : Stance). row s s.phase e)) before.1 ∙ next.1 in
+    let f : ℕ → ℕ = λ d. owed_by (stance_after (own d g)) in
+    let f' : ℕ → ℕ = λ d. owed_by (stance_after (own d (g ++ e ∷ []))) in
+    let sums : owed callers (g ++ e ∷ []) + f c ≡ owed callers g + f' c = sum_at f f' c 0 callers (omega arith) (omega arith) (λ d other. ap owed_by (sym (stance-other d g e other))) in
     let own_before : f c ≡ owed_by (Some before.0) = ap owed_by before.1 in
     let own_after : f' c ≡ owed_by (Some next.0) = ap owed_by after in
     let step = owed_by-row before.0 next.0 e next.1 in

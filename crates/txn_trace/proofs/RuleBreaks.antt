@@ -18,12 +18,12 @@ use Rattle.txn_trace.specs.Serial.{serial}
 use Rattle.txn_trace.specs.Now.{now}
 use Rattle.txn_trace.specs.Replies.{RepliesHoldAt}
 use Rattle.txn_trace.specs.Locks.{is_locked}
-use Rattle.txn_words.specs.declared.seat.Phase.{Phase}
-use Rattle.txn_words.specs.declared.seat.Phase.TheVariants.{Closed, Waiting}
-use Rattle.txn_words.specs.Shape.{Seat, row, seat_after, own, is_numbered, is_shaped, IsShaped}
+use Rattle.txn_words.specs.declared.stance.Phase.{Phase}
+use Rattle.txn_words.specs.declared.stance.Phase.TheVariants.{Closed, Waiting}
+use Rattle.txn_words.specs.Shape.{Stance, row, stance_after, own, is_numbered, is_shaped, IsShaped}
 use Rattle.txn_trace.specs.Legal.{IsLegal, replies_hold, broken, runs}
 use Rattle.txn_trace.proofs.Pushes.{txn_at, of-push_in, alone-push}
-use Rattle.txn_trace.proofs.Callers.{is_end, ended, shaped_seat, shaped_number}
+use Rattle.txn_trace.proofs.Callers.{is_end, ended, shaped_stance, shaped_number}
 use Rattle.txn_trace.proofs.Shaped.{callers_of, ended_in}
 use Rattle.txn_trace.proofs.Stripes.{keys_in, are_apart}
 use Rattle.txn_trace.proofs.Local.{WaitsFor}
@@ -32,13 +32,13 @@ use Rattle.txn_trace.proofs.Table.{get-now}
 use Rattle.txn_trace.proofs.BadEntries.{replies_hold_from, RepliesHoldAt-from, shape_push}
 use Rattle.txn_trace.proofs.Others.{replies-push_other, serial_is}
 use Rattle.txn_trace.proofs.Fits.{Fits, FitsAfter, IsReply, PhaseFits, fits_act}
-use Rattle.txn_trace.proofs.Seated.{the_some}
-use Rattle.txn_trace.proofs.Running.{has_seat}
+use Rattle.txn_trace.proofs.StanceRuns.{the_some}
+use Rattle.txn_trace.proofs.Running.{has_stance}
 use Rattle.txn_trace.proofs.EntrySteps.{txn, going, at_txn, run, run_is, run_fits, run_logs, last_is}
 use Rattle.txn_trace.proofs.Entries.{began, did}
 
 -- If `row` allows an entry that is not a `Began`, the caller's phase is not `Closed`.
-pub row_active : (s : Seat) (q : Phase) (e : Entry) → is_began e ≡ false → is_some (row s q e) ≡ true → runs q ≡ true
+pub row_active : (s : Stance) (q : Phase) (e : Entry) → is_began e ≡ false → is_some (row s q e) ≡ true → runs q ≡ true
 row_active s Closed (Began c t) b h = absurd (false≢true (sym b))
 row_active s Closed _ b h = absurd (false≢true h)
 row_active s _ e b h = refl
@@ -50,22 +50,22 @@ is_right_in g (Waiting op) x = option_eq nat_eq x (reply_of (now g) op)
 is_right_in g _ x = true
 
 abbrev pub is_right : List Entry → Entry → Bool
-is_right g (Did c x) = elim (seat_after (own c g)) [ None ↦ true | Some s ↦ is_right_in g s.phase x ]
+is_right g (Did c x) = elim (stance_after (own c g)) [ None ↦ true | Some s ↦ is_right_in g s.phase x ]
 is_right g _ = true
 
--- The seats of the caller before and after an entry of the right shape. The entry's number is
+-- The stances of the caller before and after an entry of the right shape. The entry's number is
 -- right.
 record Shaped (g : List Entry) (e : Entry) : Type 0 where
-  before : Seat
-  is : seat_after (own (caller_of e) g) ≡ Some before
-  next : Seat
+  before : Stance
+  is : stance_after (own (caller_of e) g) ≡ Some before
+  next : Stance
   goes : row before before.phase e ≡ Some next
   numbered : is_numbered g e ≡ true
 
 shaped_by : (g : List Entry) (e : Entry) → IsShaped g → is_shaped g e ≡ true → Shaped g e
 shaped_by g e shape shaped =
-    let before = the_some (seat_after (own (caller_of e) g)) (has_seat g shape (caller_of e)) in
-    let some : is_some (row before.0 before.0.phase e) ≡ true = subst (λ o. is_some (option_and_then (λ (s : Seat). row s s.phase e) o) ≡ true) before.1 (shaped_seat g e shaped) in
+    let before = the_some (stance_after (own (caller_of e) g)) (has_stance g shape (caller_of e)) in
+    let some : is_some (row before.0 before.0.phase e) ≡ true = subst (λ o. is_some (option_and_then (λ (s : Stance). row s s.phase e) o) ≡ true) before.1 (shaped_stance g e shaped) in
     let next = the_some (row before.0 before.0.phase e) some in
     record { before = before.0; is = before.1; next = next.0; goes = next.1; numbered = shaped_number g e shaped }
 
@@ -145,7 +145,7 @@ holds_after stripes g legal (Undone c) shaped d = holds_if stripes g legal (Undo
 holds_after stripes g legal (Returned c n) shaped d = holds_if stripes g legal (Returned c n) shaped refl refl (acts_if stripes g legal (Returned c n) shaped refl refl refl)
 holds_after stripes g legal (Busy c op x) shaped d = holds_if stripes g legal (Busy c op x) shaped refl refl (acts_if stripes g legal (Busy c op x) shaped refl refl refl)
 
-waits_for : (s : Seat) (q : Phase) (c : ℕ) (x : Option ℕ) → is_some (row s q (Did c x)) ≡ true → (op : Op) × (q ≡ Waiting op)
+waits_for : (s : Stance) (q : Phase) (c : ℕ) (x : Option ℕ) → is_some (row s q (Did c x)) ≡ true → (op : Op) × (q ≡ Waiting op)
 waits_for s (Waiting op) c x h = (op, refl)
 waits_for s _ c x h = absurd (false≢true h)
 

@@ -1,4 +1,4 @@
--- A caller is in an open transaction exactly if its seat is not closed.
+-- A caller is in an open transaction exactly if its stance is not closed.
 use Rattle.std.proofs.Common.{◌≡◌, ℕ, ◌==◌, cond, ◌≢◌, true, false, List, [], ◌∷◌, ◌++◌, refl, ap, sym, subst, ◌∙◌, Some, None, Option, is_some}
 use Rattle.std.specs.Option.{option_and_then}
 use Rattle.std.proofs.lemmas.Bool.{false≢true, cases_Bool, cases_eq, eq-eqb}
@@ -7,21 +7,21 @@ use Rattle.txn_words.specs.declared.entry.Entry.{Entry}
 use Rattle.txn_words.specs.declared.entry.Entry.TheVariants.{Began}
 use Rattle.txn_trace.specs.History.{txn_after}
 use Rattle.txn_words.specs.Kinds.{caller_of, is_began}
-use Rattle.txn_words.specs.Shape.{Seat, row, closed_seat, seat_after, own, is_shaped, IsShaped}
+use Rattle.txn_words.specs.Shape.{Stance, row, closed_stance, stance_after, own, is_shaped, IsShaped}
 use Rattle.txn_trace.specs.Legal.{is_running}
 use Rattle.txn_trace.proofs.Pushes.{txn_in, txn_at, txn_in-push}
-use Rattle.txn_trace.proofs.Callers.{Callers, ended, shaped_seat, closed_begins, began_or_not}
-use Rattle.txn_trace.proofs.Shaped.{callers_of, seat_of_mine, seat_of_other}
+use Rattle.txn_trace.proofs.Callers.{Callers, ended, shaped_stance, closed_begins, began_or_not}
+use Rattle.txn_trace.proofs.Shaped.{callers_of, stance_of_mine, stance_of_other}
 use Rattle.txn_trace.proofs.Inductions.{by_entries}
 
--- In a history of the right shape, each caller has a seat.
-pub has_seat : (g : List Entry) → IsShaped g → (c : ℕ) → is_some (seat_after (own c g)) ≡ true
-has_seat g shape c = by_entries (λ h. is_some (seat_after (own c h)) ≡ true) step refl g shape
+-- In a history of the right shape, each caller has a stance.
+pub has_stance : (g : List Entry) → IsShaped g → (c : ℕ) → is_some (stance_after (own c g)) ≡ true
+has_stance g shape c = by_entries (λ h. is_some (stance_after (own c h)) ≡ true) step refl g shape
   where
-    step : (g : List Entry) (e : Entry) → IsShaped g → Callers g → is_shaped g e ≡ true → is_some (seat_after (own c g)) ≡ true → is_some (seat_after (own c (g ++ e ∷ []))) ≡ true
+    step : (g : List Entry) (e : Entry) → IsShaped g → Callers g → is_shaped g e ≡ true → is_some (stance_after (own c g)) ≡ true → is_some (stance_after (own c (g ++ e ∷ []))) ≡ true
     step g e shape callers shaped is = elim (cases_eq c (caller_of e)) [
-      | inl mine ↦ ap is_some (seat_of_mine g e callers shaped c mine) ∙ shaped_seat g e shaped
-      | inr other ↦ ap is_some (seat_of_other g e callers shaped c other) ∙ is
+      | inl mine ↦ ap is_some (stance_of_mine g e callers shaped c mine) ∙ shaped_stance g e shaped
+      | inr other ↦ ap is_some (stance_of_other g e callers shaped c other) ∙ is
     ]
 
 began_is_in : (g : List Entry) (e : Entry) → is_began e ≡ true → txn_at g e ≢ None
@@ -32,22 +32,22 @@ began_is_in g (Began c t) b is = false≢true (ap is_some (sym is) ∙ ap is_som
 began_is_in g _ b is = absurd (false≢true b)
 
 -- A caller that has begun no transaction is closed.
-pub closed_before : (g : List Entry) → IsShaped g → (c : ℕ) → txn_in g c ≡ None → seat_after (own c g) ≡ Some closed_seat
-closed_before g shape c = by_entries (λ h. txn_in h c ≡ None → seat_after (own c h) ≡ Some closed_seat) step (λ is. refl) g shape
+pub closed_before : (g : List Entry) → IsShaped g → (c : ℕ) → txn_in g c ≡ None → stance_after (own c g) ≡ Some closed_stance
+closed_before g shape c = by_entries (λ h. txn_in h c ≡ None → stance_after (own c h) ≡ Some closed_stance) step (λ is. refl) g shape
   where
     none_before : (g : List Entry) (e : Entry) (d : ℕ) → txn_after (txn_in g) e d ≡ None → txn_in g d ≡ None
     none_before g (Began c t) d is = (elim (c == d) as (λ b. cond b (Some t) (txn_in g d) ≡ None → txn_in g d ≡ None) [ true ↦ λ h. absurd (cc (h)) | false ↦ λ h. h ]) is
     none_before g _ d is = is
 
-    step : (g : List Entry) (e : Entry) → IsShaped g → Callers g → is_shaped g e ≡ true → (txn_in g c ≡ None → seat_after (own c g) ≡ Some closed_seat) → txn_in (g ++ e ∷ []) c ≡ None → seat_after (own c (g ++ e ∷ [])) ≡ Some closed_seat
+    step : (g : List Entry) (e : Entry) → IsShaped g → Callers g → is_shaped g e ≡ true → (txn_in g c ≡ None → stance_after (own c g) ≡ Some closed_stance) → txn_in (g ++ e ∷ []) c ≡ None → stance_after (own c (g ++ e ∷ [])) ≡ Some closed_stance
     step g e shape callers shaped was is =
         let now : txn_after (txn_in g) e c ≡ None = ap (λ f. f c) (sym (txn_in-push g e)) ∙ is in
         let closed = was (none_before g e c now) in
         elim (cases_eq c (caller_of e)) [
           | inl mine ↦
-              let opens : is_some (row closed_seat closed_seat.phase e) ≡ true = subst (λ o. is_some (option_and_then (λ (s : Seat). row s s.phase e) o) ≡ true) (ap (λ d. seat_after (own d g)) (sym mine) ∙ closed) (shaped_seat g e shaped) in
+              let opens : is_some (row closed_stance closed_stance.phase e) ≡ true = subst (λ o. is_some (option_and_then (λ (s : Stance). row s s.phase e) o) ≡ true) (ap (λ d. stance_after (own d g)) (sym mine) ∙ closed) (shaped_stance g e shaped) in
               absurd (began_is_in g e (closed_begins e opens) (ap (λ d. txn_after (txn_in g) e d) (sym mine) ∙ now))
-          | inr other ↦ seat_of_other g e callers shaped c other ∙ closed
+          | inr other ↦ stance_of_other g e callers shaped c other ∙ closed
         ]
 
 -- The open transaction of a caller.
@@ -57,7 +57,7 @@ pub record Running (g : List Entry) (c : ℕ) : Type 0 where
   pub going : ended txn g ≡ false
 
 -- A caller that is not closed has an open transaction.
-pub running_txn : (g : List Entry) → IsShaped g → (c : ℕ) → is_running (seat_after (own c g)) ≡ true → Running g c
+pub running_txn : (g : List Entry) → IsShaped g → (c : ℕ) → is_running (stance_after (own c g)) ≡ true → Running g c
 running_txn g shape c runs = from (txn_in g c) refl
   where
     callers : Callers g
@@ -84,6 +84,6 @@ has_txn g e shape shaped = from (txn_at g e) refl
       | inl b ↦ absurd (began_is_in g e b is)
       | inr b ↦
           let closed = closed_before g shape (caller_of e) (not_began_none g e b is) in
-          let opens : is_some (row closed_seat closed_seat.phase e) ≡ true = subst (λ o. is_some (option_and_then (λ (s : Seat). row s s.phase e) o) ≡ true) closed (shaped_seat g e shaped) in
+          let opens : is_some (row closed_stance closed_stance.phase e) ≡ true = subst (λ o. is_some (option_and_then (λ (s : Stance). row s s.phase e) o) ≡ true) closed (shaped_stance g e shaped) in
           absurd (false≢true (sym b ∙ closed_begins e opens))
     ]

@@ -10,10 +10,10 @@ use mathlib.Core.Logic.{◌⊎◌, inl, inr}
 use Rattle.txn_words.specs.declared.entry.Entry.{Entry}
 use Rattle.txn_trace.specs.History.{Line, lines_of, of, ends_in, is_committed, is_aborted}
 use Rattle.txn_words.specs.Kinds.{caller_of}
-use Rattle.txn_words.specs.Shape.{row, seat_after, closed_seat, own, is_shaped, IsShaped}
+use Rattle.txn_words.specs.Shape.{row, stance_after, closed_stance, own, is_shaped, IsShaped}
 use Rattle.txn_trace.specs.Legal.{is_running}
-use Rattle.txn_trace.proofs.Pushes.{txn_in, txn_at, lines_of-push, txn_in-push, of-push_in, of-push_out, ends_in-push, seat_after-push, own-push_in, own-push_out}
-use Rattle.txn_trace.proofs.Callers.{is_end, ended, ends_either, IsOwned, Callers, callers_none, at_is, after_is, began_number, not_began_is, in_or_out, more, shaped_seat, shaped_number, began_or_not, number_in, not_after_end, end_closes, other_runs, began_was_closed, not_equal, txn_stays, ByRecursion-append}
+use Rattle.txn_trace.proofs.Pushes.{txn_in, txn_at, lines_of-push, txn_in-push, of-push_in, of-push_out, ends_in-push, stance_after-push, own-push_in, own-push_out}
+use Rattle.txn_trace.proofs.Callers.{is_end, ended, ends_either, IsOwned, Callers, callers_none, at_is, after_is, began_number, not_began_is, in_or_out, more, shaped_stance, shaped_number, began_or_not, number_in, not_after_end, end_closes, other_runs, began_was_closed, not_equal, txn_stays, ByRecursion-append}
 
 module _ (g : List Entry) (e : Entry) (callers : Callers g) (shaped : is_shaped g e ≡ true) where
   pub ended_in : (t : ℕ) → txn_at g e ≡ Some t → ended t (g ++ e ∷ []) ≡ is_end e
@@ -45,35 +45,35 @@ module _ (g : List Entry) (e : Entry) (callers : Callers g) (shaped : is_shaped 
     | inr b ↦ callers.one (caller_of e) d t (not_began_is g e t b (at_is g e t at)) js
   ]
 
-  pub seat_of_mine : (c : ℕ) → c ≡ caller_of e → seat_after (own c (g ++ e ∷ [])) ≡ option_and_then (λ s. row s s.phase e) (seat_after (own (caller_of e) g))
-  seat_of_mine c mine = ap (λ x. seat_after (own x (g ++ e ∷ []))) mine ∙ ap seat_after (own-push_in (caller_of e) g e refl) ∙ seat_after-push (own (caller_of e) g) e
+  pub stance_of_mine : (c : ℕ) → c ≡ caller_of e → stance_after (own c (g ++ e ∷ [])) ≡ option_and_then (λ s. row s s.phase e) (stance_after (own (caller_of e) g))
+  stance_of_mine c mine = ap (λ x. stance_after (own x (g ++ e ∷ []))) mine ∙ ap stance_after (own-push_in (caller_of e) g e refl) ∙ stance_after-push (own (caller_of e) g) e
 
-  pub seat_of_other : (c : ℕ) → (c ≡ caller_of e → ⊥) → seat_after (own c (g ++ e ∷ [])) ≡ seat_after (own c g)
-  seat_of_other c other = ap seat_after (own-push_out c g e (not_equal c (caller_of e) other))
+  pub stance_of_other : (c : ℕ) → (c ≡ caller_of e → ⊥) → stance_after (own c (g ++ e ∷ [])) ≡ stance_after (own c g)
+  stance_of_other c other = ap stance_after (own-push_out c g e (not_equal c (caller_of e) other))
 
   -- After the entry, a caller whose transaction has ended is closed, and a caller whose transaction
   -- has not ended runs.
-  closed_push : (c t : ℕ) → txn_in (g ++ e ∷ []) c ≡ Some t → ended t (g ++ e ∷ []) ≡ true → seat_after (own c (g ++ e ∷ [])) ≡ Some closed_seat
+  closed_push : (c t : ℕ) → txn_in (g ++ e ∷ []) c ≡ Some t → ended t (g ++ e ∷ []) ≡ true → stance_after (own c (g ++ e ∷ [])) ≡ Some closed_stance
   closed_push c t is done = elim (in_or_out (txn_at g e) t) [
     | inl at ↦
         let ends : is_end e ≡ true = sym (ended_in t at) ∙ done in
         let mine : c ≡ caller_of e = elim (step c t is) [ inl w ↦ w.0 | inr w ↦ sym (same c t at w.1) ] in
-        seat_of_mine c mine ∙ end_closes e (seat_after (own (caller_of e) g)) ends (shaped_seat g e shaped)
+        stance_of_mine c mine ∙ end_closes e (stance_after (own (caller_of e) g)) ends (shaped_stance g e shaped)
     | inr out ↦ elim (step c t is) [
       | inl w ↦ absurd (out w.1)
-      | inr w ↦ seat_of_other c w.0 ∙ callers.closed c t w.1 (sym (ended_out t out) ∙ done)
+      | inr w ↦ stance_of_other c w.0 ∙ callers.closed c t w.1 (sym (ended_out t out) ∙ done)
     ]
   ]
 
-  running_push : (c t : ℕ) → txn_in (g ++ e ∷ []) c ≡ Some t → ended t (g ++ e ∷ []) ≡ false → is_running (seat_after (own c (g ++ e ∷ []))) ≡ true
+  running_push : (c t : ℕ) → txn_in (g ++ e ∷ []) c ≡ Some t → ended t (g ++ e ∷ []) ≡ false → is_running (stance_after (own c (g ++ e ∷ []))) ≡ true
   running_push c t is not_done = elim (in_or_out (txn_at g e) t) [
     | inl at ↦
         let goes : is_end e ≡ false = sym (ended_in t at) ∙ not_done in
         let mine : c ≡ caller_of e = elim (step c t is) [ inl w ↦ w.0 | inr w ↦ sym (same c t at w.1) ] in
-        ap is_running (seat_of_mine c mine) ∙ other_runs e (seat_after (own (caller_of e) g)) goes (shaped_seat g e shaped)
+        ap is_running (stance_of_mine c mine) ∙ other_runs e (stance_after (own (caller_of e) g)) goes (shaped_stance g e shaped)
     | inr out ↦ elim (step c t is) [
       | inl w ↦ absurd (out w.1)
-      | inr w ↦ ap is_running (seat_of_other c w.0) ∙ callers.running c t w.1 (not_ended_before t not_done)
+      | inr w ↦ ap is_running (stance_of_other c w.0) ∙ callers.running c t w.1 (not_ended_before t not_done)
     ]
   ]
 
@@ -82,8 +82,8 @@ module _ (g : List Entry) (e : Entry) (callers : Callers g) (shaped : is_shaped 
       let before : ended t g ≡ false = not_ended_before t not_done in
       let in_it = is t txn before in
       txn_stays g e (caller_of line.entry) t (λ b mine. false≢true (
-      sym (began_was_closed e (seat_after (own (caller_of e) g)) b (shaped_seat g e shaped))
-      ∙ sym (ap (λ x. is_running (seat_after (own x g))) mine) ∙ callers.running (caller_of line.entry) t in_it before)) in_it
+      sym (began_was_closed e (stance_after (own (caller_of e) g)) b (shaped_stance g e shaped))
+      ∙ sym (ap (λ x. is_running (stance_after (own x g))) mine) ∙ callers.running (caller_of line.entry) t in_it before)) in_it
 
   owned_last : IsOwned (g ++ e ∷ []) (record { txn = txn_at g e; entry = e })
   owned_last t txn not_done = ap (λ f. f (caller_of e)) (txn_in-push g e) ∙ txn

@@ -11,9 +11,9 @@ use Rattle.txn_trace.specs.Alone.{alone}
 use Rattle.txn_trace.specs.Serial.{serial}
 use Rattle.txn_trace.specs.Replies.{RepliesHold}
 use Rattle.txn_trace.specs.Locks.{is_locked, LocksHold}
-use Rattle.txn_words.specs.declared.seat.Phase.{Phase}
-use Rattle.txn_words.specs.declared.seat.Phase.TheVariants.{Closed}
-use Rattle.txn_words.specs.Shape.{Seat, seat_after, own, how_many, is_shaped, IsShaped}
+use Rattle.txn_words.specs.declared.stance.Phase.{Phase}
+use Rattle.txn_words.specs.declared.stance.Phase.TheVariants.{Closed}
+use Rattle.txn_words.specs.Shape.{Stance, stance_after, own, how_many, is_shaped, IsShaped}
 
 -- A history is legal if it keeps the rules of replies, of locks and of shape. `holder` says which
 -- caller a Busy entry may name.
@@ -51,7 +51,7 @@ runs Closed = false
 runs _ = true
 
 -- Whether a caller is in a transaction.
-abbrev pub is_running : Option Seat → Bool
+abbrev pub is_running : Option Stance → Bool
 is_running None = false
 is_running (Some s) = runs s.phase
 
@@ -61,7 +61,7 @@ callers_in h = fold (λ n e. max n (caller_of e + 1)) 0 h
 
 -- The callers that are in a transaction and whose number is below `callers`.
 abbrev pub running : ℕ → List Entry → List ℕ
-running callers h = filter (λ c. is_running (seat_after (own c h))) (range_with_len 0 callers)
+running callers h = filter (λ c. is_running (stance_after (own c h))) (range_with_len 0 callers)
 
 -- A verdict is Legal or Illegal. Legal has the number of commits and the number of callers that are
 -- in a transaction. Illegal has the number of the first bad entry and the number of the rule that

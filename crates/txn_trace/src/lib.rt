@@ -19,6 +19,6 @@
 pub mod laws;
 
 pub use txn_words::{
-    Action, Answer, Entry, Holder, Limits, Op, PackedAction, PackedEntry, PackedStep, Phase,
-    Refusal, Reply, Script, Scripts, Seat, SmallEntry, Step, Unpacked, answer_text, entry_of,
+    Action, Answer, Entry, Holder, Limits, Op, PackedAction, PackedStep, Phase, Refusal, Reply,
+    Script, Scripts, SmallEntry, Stance, Step, Unpacked, answer_text, entry_of,
 };

@@ -1,4 +1,4 @@
--- Words that name a seat, how often a stripe occurs in a list, and a list's elements by position.
+-- Words that name a stance, how often a stripe occurs in a list, and a list's elements by position.
 use Rattle.std.proofs.Common.{replicate, ◌≡◌, ◌≢◌, ℕ, zero, suc, ◌+◌, ◌-◌, ◌<◌, ◌≤◌, ◌⊎◌, List, [], ◌∷◌, ◌++◌, length, get_or, reverse, Some, slice_get, sym, refl, ◌∙◌, ap, subst, inl, inr, ⊎_elim, arith, cond, eqb, eq-eqb, ne_eqb}
 use Rattle.std.proofs.lemmas.List.{reverse-append}
 use Rattle.std.proofs.lemmas.Option.{none-some, same_Some}
@@ -8,15 +8,15 @@ use native.Mathlib.Decide.{ℕ_discrete}
 use lib.ListN.{get_elem?}
 use Rattle.txn_words.specs.Held.{times, removed, once_for}
 
--- If the word names the seat, `once_for` is 1.
+-- If the word names the stance, `once_for` is 1.
 pub once_yes : (n word : ℕ) → word ≡ n + 1 → once_for n word ≡ 1
 once_yes n word e = ap (λ b. cond b 1 0) (eq-eqb word (n + 1) e)
 
--- If the word does not name the seat, `once_for` is 0.
+-- If the word does not name the stance, `once_for` is 0.
 pub once_no : (n word : ℕ) → word ≢ n + 1 → once_for n word ≡ 0
 once_no n word ne = ap (λ b. cond b 1 0) (ne_eqb word (n + 1) ne)
 
--- If a seat holds a stripe, the stripe's word names the seat.
+-- If a stance holds a stripe, the stripe's word names the stance.
 pub own_word : (n word many : ℕ) → many ≡ once_for n word → 0 < many → word ≡ n + 1
 own_word n word many e h = dite (ℕ_discrete word (n + 1)) (λ y. y) (λ ne. absurd (omega (arith, once_no n word ne)))
 
@@ -78,14 +78,14 @@ times_removed_le k j ks = dite (ℕ_discrete j k)
 -- `f` gives the word of each stripe before a step, and `g` after the step. The step changes at most
 -- the word of stripe `i`.
 module _ (f g : ℕ → ℕ) (i : ℕ) (other : (k : ℕ) → k ≢ i → g k ≡ f k) where
-  -- If the word of stripe i names seat a neither before nor after the step, the step does not
-  -- change which words name seat a.
+  -- If the word of stripe i names stance a neither before nor after the step, the step does not
+  -- change which words name stance a.
   pub once_kept : (a : ℕ) → f i ≢ a + 1 → g i ≢ a + 1 → (k : ℕ) → once_for a (g k) ≡ once_for a (f k)
   once_kept a was is k = dite (ℕ_discrete k i)
       (λ (y : k ≡ i). subst (λ (j : ℕ). once_for a (g j) ≡ once_for a (f j)) (sym y) (once_no a (g i) is ∙ sym (once_no a (f i) was)))
       (λ no. ap (once_for a) (other k no))
 
-  -- If seat `n` holds exactly the stripes whose words name it, this remains true when the seat
+  -- If stance `n` holds exactly the stripes whose words name it, this remains true when the stance
   -- takes stripe `i`.
   pub times_taken : (n : ℕ) (ks : List ℕ) → f i ≡ 0 → g i ≡ n + 1 → (k : ℕ) → times k ks ≡ once_for n (f k) → times k (i ∷ ks) ≡ once_for n (g k)
   times_taken n ks free mine k old = dite (ℕ_discrete k i)
@@ -93,7 +93,7 @@ module _ (f g : ℕ → ℕ) (i : ℕ) (other : (k : ℕ) → k ≢ i → g k �
       (λ at. omega (arith, at, times_same i ks, once_no n (f i) (λ q. omega arith), once_yes n (g i) mine)) old)
       (λ ne. times_other k i ks (λ y. ne (sym y)) ∙ old ∙ ap (once_for n) (sym (other k ne)))
 
-  -- If seat `n` holds exactly the stripes whose words name it, this remains true when the seat
+  -- If stance `n` holds exactly the stripes whose words name it, this remains true when the stance
   -- gives stripe `i` back.
   pub times_given : (n : ℕ) (ks : List ℕ) → f i ≡ n + 1 → g i ≡ 0 → (k : ℕ) → times k ks ≡ once_for n (f k) → times k (removed i ks) ≡ once_for n (g k)
   times_given n ks mine free k old = dite (ℕ_discrete k i)

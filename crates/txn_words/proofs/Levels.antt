@@ -9,9 +9,9 @@ use Rattle.std.proofs.lemmas.List.{get_or_append_left, length_push, get_or_push,
 use mathlib.Core.Logic.{inl, inr}
 use Rattle.txn_words.specs.declared.entry.Entry.{Entry}
 use Rattle.txn_words.specs.declared.entry.Entry.TheVariants.{Began, Asked, Did, Saved, Leave, Undone, Returned, Committed, Busy, Aborted}
-use Rattle.txn_words.specs.declared.seat.Phase.{Phase}
-use Rattle.txn_words.specs.declared.seat.Phase.TheVariants.{Closed, Opened, Waiting, LeavingTo, LeavingToEnd}
-use Rattle.txn_words.specs.Shape.{Seat, closed_seat, changes, row, seat_after}
+use Rattle.txn_words.specs.declared.stance.Phase.{Phase}
+use Rattle.txn_words.specs.declared.stance.Phase.TheVariants.{Closed, Opened, Waiting, LeavingTo, LeavingToEnd}
+use Rattle.txn_words.specs.Shape.{Stance, closed_stance, changes, row, stance_after}
 
 -- Each level keeps at least as many changes as the levels before it.
 abbrev pub IsRisingList : List ℕ → Type 0
@@ -29,11 +29,11 @@ IsLevelIn (Waiting op) standing kept = AreWithin standing kept
 IsLevelIn (LeavingTo n) standing kept = (n < length kept) × (get_or kept n 0 ≤ standing)
 IsLevelIn LeavingToEnd standing kept = Unit {0}
 
-pub record Leveled (s : Seat) : Type 0 where
+pub record Leveled (s : Stance) : Type 0 where
   pub rising : IsRisingList s.kept
   pub within : IsLevelIn s.phase s.standing s.kept
 
-abbrev LeveledAfter : Option Seat → Type 0
+abbrev LeveledAfter : Option Stance → Type 0
 LeveledAfter None = Unit {0}
 LeveledAfter (Some s) = Leveled s
 
@@ -45,7 +45,7 @@ one_rises i j below within =
     let none : P 0 0 = omega arith in
     subst (P i) (sym last) (subst (λ a. P a 0) (sym first) none)
 
-closed_leveled : Leveled closed_seat
+closed_leveled : Leveled closed_stance
 closed_leveled = record { rising = one_rises; within = (refl, refl) }
 
 one_within : AreWithin 0 (0 ∷ [])
@@ -117,11 +117,11 @@ one_more_or_same : (b : Bool) (n : ℕ) → n ≤ cond b (n + 1) n
 one_more_or_same true n = omega arith
 one_more_or_same false n = omega arith
 
-leveled_if : (b : Bool) (s : Seat) → (b ≡ true → Leveled s) → LeveledAfter (cond b (Some s) None)
+leveled_if : (b : Bool) (s : Stance) → (b ≡ true → Leveled s) → LeveledAfter (cond b (Some s) None)
 leveled_if true s is = is refl
 leveled_if false s is = tt
 
-row_leveled : (s : Seat) (q : Phase) (e : Entry) → s.phase ≡ q → IsRisingList s.kept → IsLevelIn q s.standing s.kept → LeveledAfter (row s q e)
+row_leveled : (s : Stance) (q : Phase) (e : Entry) → s.phase ≡ q → IsRisingList s.kept → IsLevelIn q s.standing s.kept → LeveledAfter (row s q e)
 row_leveled s Closed (Began c t) at rises within = record { rising = one_rises; within = one_within }
 row_leveled s Opened (Asked c op) at rises within = record { rising = rises; within = within }
 row_leveled s Opened (Busy c op x) at rises within = record { rising = rises; within = tt }
@@ -141,14 +141,14 @@ row_leveled s (LeavingTo n) (Returned c m) at rises within = leveled_if ((n == m
     record { rising = cut_rises (n + 1) s.kept rises; within = cut_within n s.standing s.kept rises within.0 reached })
 row_leveled s LeavingToEnd (Undone c) at rises within = leveled_if (nat_lt 0 s.standing) (record s { standing = s.standing - 1 }) (λ b.
     record { rising = rises; within = subst (λ q. IsLevelIn q (s.standing - 1) s.kept) (sym at) tt })
-row_leveled s LeavingToEnd (Aborted c) at rises within = leveled_if (s.standing == 0) closed_seat (λ b. closed_leveled)
+row_leveled s LeavingToEnd (Aborted c) at rises within = leveled_if (s.standing == 0) closed_stance (λ b. closed_leveled)
 row_leveled s q e at rises within = tt
 
-fold_leveled : (es : List Entry) (o : Option Seat) → LeveledAfter o → LeveledAfter (fold (λ seat e. option_and_then (λ s. row s s.phase e) seat) o es)
+fold_leveled : (es : List Entry) (o : Option Stance) → LeveledAfter o → LeveledAfter (fold (λ stance e. option_and_then (λ s. row s s.phase e) stance) o es)
 fold_leveled [] o is = is
 fold_leveled (e ∷ es) None is = fold_leveled es None tt
 fold_leveled (e ∷ es) (Some s) is = fold_leveled es (row s s.phase e) (row_leveled s s.phase e refl is.rising is.within)
 
--- Every seat that results from a list of entries is `Leveled`.
-pub seat_leveled : (es : List Entry) (s : Seat) → seat_after es ≡ Some s → Leveled s
-seat_leveled es s is = subst LeveledAfter is (fold_leveled es (Some closed_seat) closed_leveled)
+-- Every stance that results from a list of entries is `Leveled`.
+pub stance_leveled : (es : List Entry) (s : Stance) → stance_after es ≡ Some s → Leveled s
+stance_leveled es s is = subst LeveledAfter is (fold_leveled es (Some closed_stance) closed_leveled)

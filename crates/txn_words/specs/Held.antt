@@ -1,5 +1,4 @@
--- The list of the stripes that a seat holds, and the words that name the holders of stripes. In
--- this file, a seat is a seat of the toolchain's `atomic_table`, not a caller's `Seat`.
+-- The list of the stripes that a seat holds, and the words that name the holders of stripes.
 use Rattle.std.specs.Prelude.{ℕ, ◌+◌, ◌==◌, cond, List, [], ◌∷◌}
 
 -- How often a stripe occurs in a list.

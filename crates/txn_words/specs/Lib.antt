@@ -6,7 +6,7 @@ pub mod Work
 pub mod Map
 pub mod Ordered
 pub mod Shape
-pub mod Seats
+pub mod Stances
 pub mod Owed
 pub mod Packed
 pub mod Entries

@@ -6,9 +6,9 @@ use Rattle.txn_words.specs.declared.op.Op.TheVariants.{Put, Take, Get, PutIf}
 use Rattle.txn_words.specs.declared.entry.Entry.{Entry}
 use Rattle.txn_words.specs.declared.step.Step.{Step}
 use Rattle.txn_words.specs.declared.step.Step.TheVariants.{Begin, Ask, Save, Back}
-use Rattle.txn_words.specs.declared.seat.Phase.{Phase}
-use Rattle.txn_words.specs.declared.seat.Phase.TheVariants.{Closed, Opened, Waiting, LeavingTo, LeavingToEnd}
-use Rattle.txn_words.specs.Shape.{Seat, seat_after, own}
+use Rattle.txn_words.specs.declared.stance.Phase.{Phase}
+use Rattle.txn_words.specs.declared.stance.Phase.TheVariants.{Closed, Opened, Waiting, LeavingTo, LeavingToEnd}
+use Rattle.txn_words.specs.Shape.{Stance, stance_after, own}
 
 -- True if the operation is a change on some map. This holds for every operation but a `Get`.
 abbrev pub may_change : Op → Bool
@@ -34,16 +34,16 @@ owed_in s (Waiting op) = 2 + s + owed_for op
 owed_in s (LeavingTo n) = 3 + s
 owed_in s LeavingToEnd = 1 + s
 
--- The number of entries that a caller with this seat may still append without a new reservation, or
--- 0 if there is no seat.
-abbrev pub owed_by : Option Seat → ℕ
+-- The number of entries that a caller with this stance may still append without a new reservation, or
+-- 0 if there is no stance.
+abbrev pub owed_by : Option Stance → ℕ
 owed_by None = 0
 owed_by (Some s) = owed_in s.standing s.phase
 
 -- The number of entries that all callers together may still append to the history `h` without a new
 -- reservation. Callers are numbered from 0.
 abbrev pub owed : ℕ → List Entry → ℕ
-owed callers h = sum_by (λ c. owed_by (seat_after (own c h))) (range_with_len 0 callers)
+owed callers h = sum_by (λ c. owed_by (stance_after (own c h))) (range_with_len 0 callers)
 
 -- Before a step does anything else, it reserves room in the history for this number of entries: its
 -- own entry, and the further entries that its caller may append because of the step. A step that

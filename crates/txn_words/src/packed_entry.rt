@@ -1,14 +1,11 @@
-//! An entry of a history in 48 bytes instead of 64, and the parts of an operation, which packed
-//! actions and packed steps use too. Unlike a `SmallEntry`, a packed entry can have a caller with
-//! any number. The model of a packed entry is the entry itself, so a contract reads a list of
-//! packed entries as a history.
+//! The fields of a small entry before its numbers are made small, and the fields of an operation,
+//! which packed actions and packed steps have too.
 ghost use Rattle.std.specs.Prelude.{◌≡◌};
 ghost use Rattle.txn_words.specs.Packed.{packed_op, packed_entry};
 
 use crate::entry::Entry;
 use crate::op::Op;
 use std::marker::Model;
-use std::mem::size_of;
 
 /// The kind of an operation, and whether a `PutIf` expects a value or none.
 #[derive(Clone, Copy, Debug, PartialEq, Eq)]
@@ -38,10 +35,10 @@ pub(crate) enum Kind {
     Aborted,
 }
 
-/// An entry in 48 bytes, for lists of many entries. An `Entry` takes 64 bytes. In contracts, a
-/// packed entry is the entry that it stands for.
+/// The fields of a small entry before their numbers are made small. In contracts, a packed entry is
+/// the entry that it stands for.
 #[derive(Drop)]
-pub struct PackedEntry {
+pub(crate) struct PackedEntry {
     pub(crate) kind: Kind,
     pub(crate) op: OpKind,
     pub(crate) caller: u64,
@@ -52,8 +49,6 @@ pub struct PackedEntry {
     pub(crate) expected: u64,
     pub(crate) holder: u64,
 }
-
-const _: () = prove!(size_of::<PackedEntry>() == 48);
 
 impl Model for PackedEntry {
     ghost use Rattle.txn_words.specs.declared.entry.Entry.{Entry};
@@ -67,7 +62,7 @@ impl Model for PackedEntry {
 impl PackedEntry {
     /// The entry, packed.
     #[inline(always)]
-    pub fn new(entry: Entry) -> PackedEntry
+    pub(crate) fn new(entry: Entry) -> PackedEntry
         ensures { result ≡ entry }
     {
         match entry {
@@ -110,7 +105,7 @@ impl PackedEntry {
 
     /// The entry.
     #[inline(always)]
-    pub fn entry(&self) -> Entry
+    pub(crate) fn entry(&self) -> Entry
         ensures { result ≡ self.now }
     {
         let caller = self.caller;

@@ -15,8 +15,8 @@ use std::mem::size_of;
 const CALLERS: u64 = 65_536;
 
 /// An entry in 32 bytes, for long lists of entries, such as a core's history. The entry's caller
-/// and the holder that the entry names are below 65,536. A `PackedEntry` has no such bound but
-/// takes 48 bytes. In contracts, a small entry is the entry that it stands for.
+/// and the holder that the entry names are below 65,536. An `Entry` has no such bound but takes 64
+/// bytes. In contracts, a small entry is the entry that it stands for.
 #[derive(Debug, Drop)]
 pub struct SmallEntry {
     kind: Kind,

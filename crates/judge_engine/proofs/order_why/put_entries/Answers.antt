@@ -21,5 +21,5 @@ loop-index-preserved c =
     } in
     record {
       noted = subst (λ (g : List Entry). HaveNoted g c.enter.new.self) (sym next) (c.enter.ensures (take i h) noted);
-      written = grown_where (belongs c.args.txn c.args.part) (string_bytes c.put_if.new.text) (string_bytes c.loop-index.text) (string_bytes c.args.text.now) h i e c.belongs-is_chosen.result c.in_ok-put_if.ensures c.loop-index.invariant.written (c.belongs-is_chosen.ensures (take i h) desk) c.loop-index-test.true next;
+      written = grown_where (belongs c.args.txn c.args.extent) (string_bytes c.put_if.new.text) (string_bytes c.loop-index.text) (string_bytes c.args.text.now) h i e c.belongs-is_chosen.result c.in_ok-put_if.ensures c.loop-index.invariant.written (c.belongs-is_chosen.ensures (take i h) desk) c.loop-index-test.true next;
     }

@@ -7,5 +7,5 @@ use Rattle.judge_engine.proofs.order_why.put_entries.Given as goal
 abbrev pub invariant-loop-index : goal.invariant-loop-index
 invariant-loop-index l = record {
   noted : HaveNoted (take l.index l.entries) l.desks;
-  written : string_bytes l.text ≡ string_bytes l.fn.text ++ txn_lines l.txn l.part (take l.index l.entries);
+  written : string_bytes l.text ≡ string_bytes l.fn.text ++ txn_lines l.txn l.extent (take l.index l.entries);
 }

@@ -4,16 +4,16 @@ use Rattle.striped_map.specs.Apart.{Listed}
 use Rattle.striped_map.specs.declared.record.Record.{Record}
 use Rattle.striped_map.specs.Gathered.{entries_in, records_of}
 use Rattle.striped_map.specs.Records.{spread}
-use Rattle.striped_map.proofs.Merging.{Parts}
-use Rattle.striped_map.proofs.Recording.{parts_more}
+use Rattle.striped_map.proofs.Merging.{Theirs}
+use Rattle.striped_map.proofs.Recording.{records_more}
 use Rattle.striped_map.proofs.gather.count_all.Goals as goal
 use Rattle.striped_map.proofs.gather.count_all.Goals.{in-Some+in_ok-more+in_ok-count, in_default}
 
 pub loop-place-preserved : goal.loop-place-preserved
-loop-place-preserved c = let ps : Parts = c.args.parts.now.items in let k = c.loop-place.place in let part = c.index.result.now in
+loop-place-preserved c = let ps : Theirs = c.args.theirs.now.items in let k = c.loop-place.place in let their = c.index.result.now in
     let lt : k < length ps = (let lt = c.loop-place-test.true in let e = c.len-place-end.ensures in omega arith) in
-    let more : entries_in (take (k + 1) ps) ≡ entries_in (take k ps) + length (spread 0 (records_of part)) =
-    ap entries_in (take_more ps k part lt ∙ ap (λ (p : Option (Listed Record)). take k ps ++ p ∷ []) (sym c.index.ensures)) ∙ parts_more (take k ps) part in
+    let more : entries_in (take (k + 1) ps) ≡ entries_in (take k ps) + length (spread 0 (records_of their)) =
+    ap entries_in (take_more ps k their lt ∙ ap (λ (p : Option (Listed Record)). take k ps ++ p ∷ []) (sym c.index.ensures)) ∙ records_more (take k ps) their in
     let before : c.loop-place.count ≡ entries_in (take k ps) = c.loop-place.invariant in
     elim c.match-index.branch [
       | in-Some+in_ok-more+in_ok-count w ↦

@@ -3,4 +3,4 @@ use Rattle.striped_map.specs.Gathered.{entries_in}
 use Rattle.striped_map.proofs.gather.count_all.Given as goal
 
 abbrev pub invariant-loop-place : goal.invariant-loop-place
-invariant-loop-place l = l.count ≡ entries_in (take l.place l.parts.items)
+invariant-loop-place l = l.count ≡ entries_in (take l.place l.theirs.items)

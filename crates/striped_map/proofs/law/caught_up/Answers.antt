@@ -14,15 +14,15 @@ none_long (e ∷ es) none = absurd (omega arith)
 -- `second`, then `one` has the same entries of `b` too.
 none_between : (b : ℕ) (second one two : List Entry) → IsPrefix second one → IsPrefix one two → own b two ≡ own b second → own b one ≡ own b second
 none_between b second one two begins within same =
-    let parts : own b one ≡ own b second ++ own b begins.0 = ap (own b) (sym begins.1) ∙ own-append b second begins.0 in
+    let shards : own b one ≡ own b second ++ own b begins.0 = ap (own b) (sym begins.1) ∙ own-append b second begins.0 in
     let whole : own b two ≡ own b one ++ own b within.0 = ap (own b) (sym within.1) ∙ own-append b one within.0 in
     let few = length-append (own b second) (own b begins.0) in
     let more = length-append (own b one) (own b within.0) in
-    let long = ap length parts in
+    let long = ap length shards in
     let longer = ap length whole in
     let equal = ap length same in
     let none : own b begins.0 ≡ [] = none_long (own b begins.0) (omega arith) in
-    parts ∙ ap (λ (es : List Entry). own b second ++ es) none ∙ append-nil (own b second)
+    shards ∙ ap (λ (es : List Entry). own b second ++ es) none ∙ append-nil (own b second)
 
 pub returns : goal.returns
 returns c = λ n a b held held' first second one two goes begins also within.

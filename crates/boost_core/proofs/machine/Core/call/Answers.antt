@@ -4,7 +4,7 @@ use Rattle.boost_core.proofs.Numbers.{noted_then, began_bound, committed_bound, 
 use Rattle.boost_core.proofs.SideRefusals.{free_at}
 use Rattle.boost_core.proofs.Moves.{none_of}
 use Rattle.boost_core.proofs.Starting.{some_stripe, few_callers}
-use Rattle.boost_core.proofs.OneCaller.{world_after, seated_as}
+use Rattle.boost_core.proofs.OneCaller.{world_after, stance_as}
 use Rattle.boost_core.proofs.NodeSteps.{lists_by_of, refused_lists, does}
 use Rattle.boost_core.proofs.GapSteps.{cursors_of, does_cursors}
 use Rattle.boost_core.proofs.Called.{called, takes, placed_cursor, changes_there}
@@ -37,12 +37,12 @@ invariant_of-self-2 c =
     called _ c.self.invariant.tells c.index_mut-session.result.now (reach c.answer-answer.new.self c.answer-answer.new.table c.answer-answer.new.locks) c.answer-answer.ensures.placed c.args.claim c.args.caller c.args.step c.requires.owner free.1 free.0 (some_stripe c.self.inside.limits.callers c.self.inside.limits.stripes c.self.inside.limits.buckets c.stripes.ensures.limits) (claims_of c.args.claim _ _ c.args.step c.self.view_is c.requires.claim) c.answer-answer.result c.from-stripes.result (c.from-stripes.ensures ∙ c.stripes.ensures.value) c.answer-answer.ensures.does in
     let room = when_ok c.reserve.result c.if-is_err.ensures.value c.reserve.ensures.ok in
     let owes : sum_by owed_of c.self.inside.sessions.items ≡ c.self.inside.owed = sym c.self.invariant.owes in
-    let fits = called_room _ c.self.invariant.tells c.args.caller c.index_mut-session.result.now c.answer-answer.new.self free.1 c.args.step c.answer-answer.result c.answer-answer.new.table c.answer-answer.new.locks is c.add-self-inside.new.seat c.entry_of-entry.result c.entry_of-entry.ensures c.add-self-inside.ensures.seat (vec_len c.reserve.new.self) (vec_capacity c.reserve.new.self) (omega (arith, room, c.entry_room.ensures)) in
+    let fits = called_room _ c.self.invariant.tells c.args.caller c.index_mut-session.result.now c.answer-answer.new.self free.1 c.args.step c.answer-answer.result c.answer-answer.new.table c.answer-answer.new.locks is c.add-self-inside.new.stance c.entry_of-entry.result c.entry_of-entry.ensures c.add-self-inside.ensures.stance (vec_len c.reserve.new.self) (vec_capacity c.reserve.new.self) (omega (arith, room, c.entry_room.ensures)) in
     let pushed = c.add-self-inside.ensures.items ∙ ap (λ (es : List Entry). es ++ option_to_list c.entry_of-entry.result) c.reserve.ensures.items in
     record {
       tells = rw (c.after-self-inside.ensures, c.placed_after-self-inside.ensures)
-          (called_tells _ c.self.invariant.tells c.args.caller c.index_mut-session.result.now c.answer-answer.new.self free.1 c.args.step c.answer-answer.result c.answer-answer.new.table c.answer-answer.new.locks is c.add-self-inside.new.seat c.entry_of-entry.result c.entry_of-entry.ensures c.add-self-inside.ensures.seat c.add-self-inside.new.history.items (c.add-self-inside.ensures.items ∙ ap (λ (es : List Entry). es ++ option_to_list c.entry_of-entry.result) c.reserve.ensures.items));
-      owes = called_owes _ c.self.invariant.tells c.args.caller c.index_mut-session.result.now c.answer-answer.new.self free.1 c.args.step c.answer-answer.result c.answer-answer.new.table c.answer-answer.new.locks is c.add-self-inside.new.seat c.entry_of-entry.result c.entry_of-entry.ensures c.self.inside.owed c.add-self-inside.result c.self.invariant.owes c.add-self-inside.ensures.owed;
+          (called_tells _ c.self.invariant.tells c.args.caller c.index_mut-session.result.now c.answer-answer.new.self free.1 c.args.step c.answer-answer.result c.answer-answer.new.table c.answer-answer.new.locks is c.add-self-inside.new.stance c.entry_of-entry.result c.entry_of-entry.ensures c.add-self-inside.ensures.stance c.add-self-inside.new.history.items (c.add-self-inside.ensures.items ∙ ap (λ (es : List Entry). es ++ option_to_list c.entry_of-entry.result) c.reserve.ensures.items));
+      owes = called_owes _ c.self.invariant.tells c.args.caller c.index_mut-session.result.now c.answer-answer.new.self free.1 c.args.step c.answer-answer.result c.answer-answer.new.table c.answer-answer.new.locks is c.add-self-inside.new.stance c.entry_of-entry.result c.entry_of-entry.ensures c.self.inside.owed c.add-self-inside.result c.self.invariant.owes c.add-self-inside.ensures.owed;
       room = omega (arith, fits, c.add-self-inside.ensures.len, c.add-self-inside.ensures.capacity);
       noted = noted_then c.self.inside.limits.callers c.self.inside.history.items c.add-self-inside.new.history.items c.self.inside.begun.items c.note_begun.new.begun.items c.entry_of-entry.result c.self.invariant.noted pushed c.note_begun.ensures
           (called_caller _ c.self.invariant.tells c.args.caller c.index_mut-session.result.now c.answer-answer.new.self free.1 c.args.step c.answer-answer.result c.answer-answer.new.table c.answer-answer.new.locks is c.entry_of-entry.result c.entry_of-entry.ensures);
@@ -54,13 +54,13 @@ returns-clause-moves c =
     let is : CalledBy c.args.claim (world_of c.self.inside.limits c.self.inside.history c.self.inside.counts c.self.inside.table c.self.inside.sessions c.self.inside.locks c.self.inside.placed c.self.inside.words) c.args.caller c.index_mut-session.result.now c.args.step c.answer-answer.result c.answer-answer.new.self c.answer-answer.new.table c.answer-answer.new.locks =
     called _ c.self.invariant.tells c.index_mut-session.result.now (reach c.answer-answer.new.self c.answer-answer.new.table c.answer-answer.new.locks) c.answer-answer.ensures.placed c.args.claim c.args.caller c.args.step c.requires.owner free.1 free.0 (some_stripe c.self.inside.limits.callers c.self.inside.limits.stripes c.self.inside.limits.buckets c.stripes.ensures.limits) (claims_of c.args.claim _ _ c.args.step c.self.view_is c.requires.claim) c.answer-answer.result c.from-stripes.result (c.from-stripes.ensures ∙ c.stripes.ensures.value) c.answer-answer.ensures.does in
     rw c.placed_after-self-inside.ensures
-    (goes_of c.args.claim _ _ _ _ _ c.self.view_is (called_move _ c.self.invariant.tells c.args.caller c.index_mut-session.result.now c.answer-answer.new.self free.1 c.args.step c.answer-answer.result c.answer-answer.new.table c.answer-answer.new.locks is c.add-self-inside.new.seat c.entry_of-entry.result c.entry_of-entry.ensures c.add-self-inside.new.history.items (c.add-self-inside.ensures.items ∙ ap (λ (es : List Entry). es ++ option_to_list c.entry_of-entry.result) c.reserve.ensures.items)))
+    (goes_of c.args.claim _ _ _ _ _ c.self.view_is (called_move _ c.self.invariant.tells c.args.caller c.index_mut-session.result.now c.answer-answer.new.self free.1 c.args.step c.answer-answer.result c.answer-answer.new.table c.answer-answer.new.locks is c.add-self-inside.new.stance c.entry_of-entry.result c.entry_of-entry.ensures c.add-self-inside.new.history.items (c.add-self-inside.ensures.items ∙ ap (λ (es : List Entry). es ++ option_to_list c.entry_of-entry.result) c.reserve.ensures.items)))
 
 pub returns-clause-lists : goal.returns-clause-lists
 returns-clause-lists c =
     let free = free_at _ _ c.self.invariant.tells c.self.view_is c.args.caller c.args.step c.requires.owner _ c.refusal.ensures c.in_default.is c.index_mut-session.result.now c.index_mut-session.ensures.value in
     let w : World = world_of c.self.inside.limits c.self.inside.history c.self.inside.counts c.self.inside.table c.self.inside.sessions c.self.inside.locks c.self.inside.placed c.self.inside.words in
-    let now : World = world_after w c.args.caller (seated_as c.answer-answer.new.self c.add-self-inside.new.seat) c.add-self-inside.new.history.items c.after-self-inside.result c.answer-answer.new.table c.answer-answer.new.locks c.placed_after-self-inside.result in
+    let now : World = world_after w c.args.caller (stance_as c.answer-answer.new.self c.add-self-inside.new.stance) c.add-self-inside.new.history.items c.after-self-inside.result c.answer-answer.new.table c.answer-answer.new.locks c.placed_after-self-inside.result in
     lists_by_of c.args.claim _ _ _ _ _ c.self.view_is
     (does w c.self.invariant.tells c.index_mut-session.result.now now c.answer-answer.new.self c.answer-answer.new.locks
     c.answer-answer.ensures.rises c.size-size.ensures.stored c.args.claim c.from-stripes.result c.args.caller free.1 c.args.step c.requires.owner
@@ -70,13 +70,13 @@ pub returns-clause-cursors : goal.returns-clause-cursors
 returns-clause-cursors c =
     let free = free_at _ _ c.self.invariant.tells c.self.view_is c.args.caller c.args.step c.requires.owner _ c.refusal.ensures c.in_default.is c.index_mut-session.result.now c.index_mut-session.ensures.value in
     let w : World = world_of c.self.inside.limits c.self.inside.history c.self.inside.counts c.self.inside.table c.self.inside.sessions c.self.inside.locks c.self.inside.placed c.self.inside.words in
-    let now : World = world_after w c.args.caller (seated_as c.answer-answer.new.self c.add-self-inside.new.seat) c.add-self-inside.new.history.items c.after-self-inside.result c.answer-answer.new.table c.answer-answer.new.locks c.placed_after-self-inside.result in
-    cursors_of _ _ _ _ _ c.self.view_is (does_cursors w c.self.invariant.tells c.args.caller c.index_mut-session.result.now free.1 now c.answer-answer.new.self (seated_as c.answer-answer.new.self c.add-self-inside.new.seat) refl refl (c.answer-answer.ensures.placed.sound c.self.invariant.tells.sound) c.answer-answer.new.locks c.args.claim c.args.step c.requires.owner c.from-stripes.result c.answer-answer.result c.answer-answer.ensures.does)
+    let now : World = world_after w c.args.caller (stance_as c.answer-answer.new.self c.add-self-inside.new.stance) c.add-self-inside.new.history.items c.after-self-inside.result c.answer-answer.new.table c.answer-answer.new.locks c.placed_after-self-inside.result in
+    cursors_of _ _ _ _ _ c.self.view_is (does_cursors w c.self.invariant.tells c.args.caller c.index_mut-session.result.now free.1 now c.answer-answer.new.self (stance_as c.answer-answer.new.self c.add-self-inside.new.stance) refl refl (c.answer-answer.ensures.placed.sound c.self.invariant.tells.sound) c.answer-answer.new.locks c.args.claim c.args.step c.requires.owner c.from-stripes.result c.answer-answer.result c.answer-answer.ensures.does)
 
 pub returns-clause-cursor : goal.returns-clause-cursor
 returns-clause-cursor c = λ is_placed.
     let free = free_at _ _ c.self.invariant.tells c.self.view_is c.args.caller c.args.step c.requires.owner _ c.refusal.ensures c.in_default.is c.index_mut-session.result.now c.index_mut-session.ensures.value in
-    changes_there c.self.inside.sessions.items c.args.caller c.index_mut-session.result.now (seated_as c.answer-answer.new.self c.add-self-inside.new.seat) free.1
+    changes_there c.self.inside.sessions.items c.args.caller c.index_mut-session.result.now (stance_as c.answer-answer.new.self c.add-self-inside.new.stance) free.1
     (placed_cursor c.args.claim c.from-stripes.result c.self.inside.counts c.args.step _ c.answer-answer.result _ c.answer-answer.ensures.does is_placed)
 
 pub returns-then-is_err-clause-moves : goal.returns-then-is_err-clause-moves

@@ -9,7 +9,7 @@ loop-init c = record { count = c.in_ok-table.ensures.len; fresh = rw c.in_ok-tab
 pub loop-preserved : goal.loop-preserved
 loop-preserved c = record {
   count = omega (arith, c.loop.invariant.count, c.in_ok-push.ensures.len);
-  fresh = rw c.in_ok-push.ensures.items (All-push IsFresh c.loop.table.items c.new.result c.loop.invariant.fresh (c.new.ensures.seat, c.new.ensures.log, c.new.ensures.begun));
+  fresh = rw c.in_ok-push.ensures.items (All-push IsFresh c.loop.table.items c.new.result c.loop.invariant.fresh (c.new.ensures.stance, c.new.ensures.log, c.new.ensures.begun));
 }
 
 pub invariant_of-result : goal.invariant_of-result

@@ -1,6 +1,6 @@
 use Rattle.std.proofs.Common.{◌≡◌, ◌++◌, ◌∷◌, [], drop, true, refl, sym, subst, ◌∙◌}
 use Rattle.txn_words.specs.declared.entry.Entry.TheVariants.{Did, Undone, Committed, Aborted}
-use Rattle.txn_words.specs.declared.seat.Phase.TheVariants.{Waiting}
+use Rattle.txn_words.specs.declared.stance.Phase.TheVariants.{Waiting}
 use Rattle.txn_trace.specs.Legal.{replies_hold}
 use Rattle.txn_trace.specs.Log.{log_of}
 use Rattle.txn_trace.specs.Now.{now}
@@ -8,7 +8,7 @@ use Rattle.txn_words.specs.Shape.{is_shaped}
 use Rattle.history_check.specs.LiveMaps.{FollowsAt}
 use Rattle.history_check.proofs.EntryKinds.{next-did, next-undone, next-committed, next-aborted}
 use Rattle.history_check.proofs.Holding.{released}
-use Rattle.history_check.proofs.CallerTable.{seat_there, first_then, undone_newest}
+use Rattle.history_check.proofs.CallerTable.{stance_there, first_then, undone_newest}
 use Rattle.history_check.proofs.Showing.{fine, followed, followed_still, of_entry}
 use Rattle.history_check.proofs.live_map.LiveMap.follow.Goals as goal
 
@@ -29,10 +29,10 @@ returns-in_ok-operate-in-Did-clause-ok c holder stripes h legal entered shows sh
     let shaped_e = subst (λ e. is_shaped h e ≡ true) c.in-Did.is shaped in
     let answered_e = subst (λ e. replies_hold (h ++ e ∷ []) ≡ true) c.in-Did.is answered in
     let there = c.phase.ensures h entered in
-    let waits : there.seat.phase ≡ Waiting c.in-Waiting.op = there.phase_is ∙ c.in-Waiting.is in
+    let waits : there.stance.phase ≡ Waiting c.in-Waiting.op = there.phase_is ∙ c.in-Waiting.is in
     of_entry c.in-Did.is
     (followed stripes h legal live shows e shaped_e answered_e _ _ _ _ _ _ refl
-    (next-did stripes h legal c.in-Did.caller there.seat there.seat_is c.in-Waiting.op c.in-Did.field-1 waits (fine stripes h legal live shows e shaped_e answered_e refl))
+    (next-did stripes h legal c.in-Did.caller there.stance there.stance_is c.in-Waiting.op c.in-Did.field-1 waits (fine stripes h legal live shows e shaped_e answered_e refl))
     refl refl (c.in_ok-operate-in-Did.ensures.ok (now h) shows.values) shows.holders)
 
 pub returns-in_ok-restore-in-Undone-clause-ok : goal.returns-in_ok-restore-in-Undone-clause-ok
@@ -41,12 +41,12 @@ returns-in_ok-restore-in-Undone-clause-ok c holder stripes h legal entered shows
     let e = Undone c.in-Undone.caller in
     let shaped_e = subst (λ e. is_shaped h e ≡ true) c.in-Undone.is shaped in
     let answered_e = subst (λ e. replies_hold (h ++ e ∷ []) ≡ true) c.in-Undone.is answered in
-    let seat = seat_there h e shaped_e in
+    let stance = stance_there h e shaped_e in
     let log = log_of c.in-Undone.caller h in
     let log_is = first_then log (c.in-Some.key, c.in-Some.before) (sym (c.newest_change.ensures h entered) ∙ c.in-Some.is) in
     of_entry c.in-Undone.is
     (followed stripes h legal live shows e shaped_e answered_e _ _ _ _ _ _ refl
-    (next-undone stripes h legal c.in-Undone.caller seat.0 seat.1 (c.in-Some.key, c.in-Some.before) (drop 1 log) log_is (fine stripes h legal live shows e shaped_e answered_e refl))
+    (next-undone stripes h legal c.in-Undone.caller stance.0 stance.1 (c.in-Some.key, c.in-Some.before) (drop 1 log) log_is (fine stripes h legal live shows e shaped_e answered_e refl))
     refl refl (c.in_ok-restore-in-Undone.ensures.ok (now h) shows.values) shows.holders)
 
 pub returns-in_default-newest_change-clause-ok : goal.returns-in_default-newest_change-clause-ok
@@ -59,10 +59,10 @@ returns-in-Committed-clause-ok c holder stripes h legal entered shows shaped ans
     let e = Committed c.in-Committed.caller c.in-Committed.field-1 in
     let shaped_e = subst (λ e. is_shaped h e ≡ true) c.in-Committed.is shaped in
     let answered_e = subst (λ e. replies_hold (h ++ e ∷ []) ≡ true) c.in-Committed.is answered in
-    let seat = seat_there h e shaped_e in
+    let stance = stance_there h e shaped_e in
     of_entry c.in-Committed.is
     (followed stripes h legal live shows e shaped_e answered_e _ _ _ _ _ _ refl
-    (next-committed stripes h legal c.in-Committed.caller seat.0 seat.1 c.in-Committed.field-1 (fine stripes h legal live shows e shaped_e answered_e refl))
+    (next-committed stripes h legal c.in-Committed.caller stance.0 stance.1 c.in-Committed.field-1 (fine stripes h legal live shows e shaped_e answered_e refl))
     refl refl shows.values (released stripes h legal live shows c.in-Committed.caller c.release_all.new.self c.release_all.ensures))
 
 pub returns-in-Aborted-clause-ok : goal.returns-in-Aborted-clause-ok
@@ -71,10 +71,10 @@ returns-in-Aborted-clause-ok c holder stripes h legal entered shows shaped answe
     let e = Aborted c.in-Aborted.caller in
     let shaped_e = subst (λ e. is_shaped h e ≡ true) c.in-Aborted.is shaped in
     let answered_e = subst (λ e. replies_hold (h ++ e ∷ []) ≡ true) c.in-Aborted.is answered in
-    let seat = seat_there h e shaped_e in
+    let stance = stance_there h e shaped_e in
     of_entry c.in-Aborted.is
     (followed stripes h legal live shows e shaped_e answered_e _ _ _ _ _ _ refl
-    (next-aborted stripes h legal c.in-Aborted.caller seat.0 seat.1 (fine stripes h legal live shows e shaped_e answered_e refl))
+    (next-aborted stripes h legal c.in-Aborted.caller stance.0 stance.1 (fine stripes h legal live shows e shaped_e answered_e refl))
     refl refl shows.values (released stripes h legal live shows c.in-Aborted.caller c.release_all-in-Aborted.new.self c.release_all-in-Aborted.ensures))
 
 pub returns-in_default-clause-ok : goal.returns-in_default-clause-ok

@@ -17,5 +17,5 @@ returns-in-Waiting c holder stripes h legal entered shows shaped =
     let there = c.phase.ensures h entered in
     let found = c.get.ensures (now h) shows.values ∙ ap (get (now h)) c.key.ensures in
     c.eq.ensures ∙ ap (option_eq nat_eq c.in-Did.reply) found
-    ∙ sym (did_right stripes h legal c.in-Did.caller there.seat there.seat_is c.in-Waiting.op c.in-Did.reply (there.phase_is ∙ c.in-Waiting.is) (subst (λ e. is_shaped h e ≡ true) c.in-Did.is shaped))
+    ∙ sym (did_right stripes h legal c.in-Did.caller there.stance there.stance_is c.in-Waiting.op c.in-Did.reply (there.phase_is ∙ c.in-Waiting.is) (subst (λ e. is_shaped h e ≡ true) c.in-Did.is shaped))
     ∙ ap (λ e. replies_hold (h ++ e ∷ [])) (sym c.in-Did.is)

@@ -4,7 +4,7 @@ use Rattle.txn_words.specs.declared.entry.Entry.TheVariants.{Did, Undone, Commit
 use Rattle.txn_words.specs.Kinds.{caller_of}
 use Rattle.txn_trace.specs.Log.{log_of}
 use Rattle.txn_words.specs.Shape.{is_shaped}
-use Rattle.txn_words.specs.declared.seat.Phase.TheVariants.{Waiting}
+use Rattle.txn_words.specs.declared.stance.Phase.TheVariants.{Waiting}
 use Rattle.history_check.specs.Callers.{IsIn}
 use Rattle.history_check.proofs.CallerTable.{first_then, undone_newest}
 use mathlib.Core.Logic.{inl, inr}
@@ -29,7 +29,7 @@ returns-in_ok-answer-in-Did-clause-ok c h entered have shaped =
     let below = subst (λ e. caller_of e < 64) c.in-Did.is c.requires in
     let shaped_e = subst (λ e. is_shaped h e ≡ true) c.in-Did.is shaped in
     let there = c.phase.ensures h entered in
-    let waits : IsIn h c.in-Did.caller (Waiting c.in-Waiting.op) = record { seat = there.seat; seat_is = there.seat_is; phase_is = there.phase_is ∙ c.in-Waiting.is } in
+    let waits : IsIn h c.in-Did.caller (Waiting c.in-Waiting.op) = record { stance = there.stance; stance_is = there.stance_is; phase_is = there.phase_is ∙ c.in-Waiting.is } in
     let is = foot_at h old c.in-Did.caller c.index_mut.result.now have below c.index_mut.ensures.value in
     have_entry h _ _ c.in-Did.is
     (kept h e old _ c.answer.new.self have entered.shape shaped_e

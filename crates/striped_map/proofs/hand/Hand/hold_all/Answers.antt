@@ -5,7 +5,7 @@ use Rattle.txn_words.specs.declared.op.Op.TheVariants.{Get}
 use Rattle.txn_trace.specs.Now.{now}
 use Rattle.striped_map.specs.Rule.{Holds}
 use Rattle.striped_map.specs.Seats.{known}
-use Rattle.striped_map.specs.Sound.{AreHeld, held_parts}
+use Rattle.striped_map.specs.Sound.{AreHeld, held_shards}
 use Rattle.striped_map.proofs.Ends.{moved_busy, went_on}
 use Rattle.striped_map.proofs.Hands.{holds_in}
 use Rattle.striped_map.proofs.hand.Hand.hold_all.Goals as goal
@@ -18,14 +18,14 @@ returns-in-Err-Busy-clause-err c = let map = c.args.map.now in let me = c.args.s
 pub loop-stripe-preserved : goal.loop-stripe-preserved
 loop-stripe-preserved c = let map = c.args.map.now in let n = map.table.shared.table_id.slots in let inv = c.loop-stripe.invariant in
     let me = c.hold_patiently.new.self in let v = known me.seat in let stripe = c.loop-stripe.stripe in
-    let parts : AreHeld n v (held_parts me.seat me.held.items) (now v.seen) = subst (λ z. AreHeld z.slots v (held_parts me.seat me.held.items) (now v.seen)) c.hold_patiently.ensures.map me.sound.parts in
+    let shards : AreHeld n v (held_shards me.seat me.held.items) (now v.seen) = subst (λ z. AreHeld z.slots v (held_shards me.seat me.held.items) (now v.seen)) c.hold_patiently.ensures.map me.sound.shards in
     record {
       map = c.hold_patiently.ensures.map;
       opened = c.hold_patiently.ensures.open;
       levels = c.hold_patiently.ensures.levels ∙ inv.levels;
       goes_on = went_on map c.args.self.now c.loop-stripe.self me inv.goes_on c.hold_patiently.ensures.goes_on;
       held = λ other lt. dite (ℕ_discrete other stripe)
-          (λ (e : other ≡ stripe). subst (Holds v) (sym e) (holds_in n v me.seat me.held.items (now v.seen) parts c.in-Ok.field-0 stripe c.in-Ok.ensures.held))
+          (λ (e : other ≡ stripe). subst (Holds v) (sym e) (holds_in n v me.seat me.held.items (now v.seen) shards c.in-Ok.field-0 stripe c.in-Ok.ensures.held))
           (λ ne. c.hold_patiently.ensures.goes_on.keeps other (inv.held other (omega arith)));
     }
 

@@ -1,5 +1,5 @@
 use Rattle.std.specs.Prelude.{◌≡◌}
-use Rattle.txn_words.specs.declared.seat.Phase.TheVariants.{Opened}
+use Rattle.txn_words.specs.declared.stance.Phase.TheVariants.{Opened}
 use Rattle.striped_map.specs.Hands.{GoesOn}
 use Rattle.striped_map.specs.Seats.{IsOf, known}
 use Rattle.striped_map.specs.Steps.{IsAt}

@@ -16,10 +16,10 @@ missing-requires c = let me = c.gather-numbers.new.self in let seat = me.hand.se
 
 pub returns-in-Ok-clause-ok : goal.returns-in-Ok-clause-ok
 returns-in-Ok-clause-ok c = let me = c.gather-numbers.new.self in let seat = me.hand.seat in let v = known seat in
-    let all = seat.moded ∙ c.in-Entries.is in let long = me.parts.ok.0 in let done = c.in-Ok.ensures in
+    let all = seat.moded ∙ c.in-Entries.is in let long = me.theirs.ok.0 in let done = c.in-Ok.ensures in
     let none = c.in_default-missing.ensures in let sized = me.sized all in let found = c.gather-numbers.ensures.found in
     let few = c.gather-numbers.ensures.few in let kept : kept_by me ≡ Entries = sym me.alike ∙ all in let most_is : most (kept_by me) ≡ 2 ^ 16 = ap most kept in
-    done.ok ∙ host_history v seat.records me.parts.items (me.parted all) c.gather-numbers.ensures.all _ (Aborted 0)
+    done.ok ∙ host_history v seat.records me.theirs.items (me.recorded all) c.gather-numbers.ensures.all _ (Aborted 0)
     (subst (λ (k : ℕ). marks k 0 v.seen ≡ spread k seat.records.items) (sym seat.numbered ∙ me.first) (seat.marked c.in-Entries.is))
     (λ k pos lt. none.none refl k pos (omega arith)) (omega arith) c.gather-numbers.ensures.others c.gather-numbers.ensures.legal done.few
 
@@ -27,4 +27,4 @@ pub returns-in-Ok-clause-merged : goal.returns-in-Ok-clause-merged
 returns-in-Ok-clause-merged c = let me = c.gather-numbers.new.self in let seat = me.hand.seat in let v = known seat in
     let all = seat.moded ∙ c.in-Entries.is in
     let none = c.in_default-missing.ensures in let found = c.gather-numbers.ensures.found in
-    all_merged v seat.records me.parts.items (me.parted all) c.gather-numbers.ensures.all (λ k pos lt. none.none refl k pos (omega arith))
+    all_merged v seat.records me.theirs.items (me.recorded all) c.gather-numbers.ensures.all (λ k pos lt. none.none refl k pos (omega arith))

@@ -1,6 +1,6 @@
 use Rattle.std.proofs.Common.{◌≡◌, ◌≢◌, ℕ, suc, ◌-◌, ◌<◌, List, ◌∷◌, Some, slice_get, set, sym, ap, subst, ◌∙◌, arith}
 use Rattle.txn_words.specs.declared.entry.Entry.{Entry}
-use Rattle.txn_words.specs.declared.seat.Phase.TheVariants.{Closed}
+use Rattle.txn_words.specs.declared.stance.Phase.TheVariants.{Closed}
 use Rattle.striped_map.specs.Apart.{Listed}
 use Rattle.striped_map.specs.declared.keep.Keep.TheVariants.{Entries}
 use Rattle.striped_map.specs.declared.map.StripedMap.{StripedMap}
@@ -8,7 +8,7 @@ use Rattle.striped_map.specs.declared.host.Host.{Host}
 use Rattle.striped_map.specs.declared.record.Record.{Record}
 use Rattle.striped_map.specs.declared.seat.MapSeat.{MapSeat}
 use Rattle.striped_map.specs.declared.view.View.{View}
-use Rattle.striped_map.specs.Gathered.{HasParts}
+use Rattle.striped_map.specs.Gathered.{HasRecords}
 use Rattle.striped_map.specs.Records.{spread}
 use Rattle.striped_map.specs.Seats.{IsOverIn, known}
 use Rattle.striped_map.specs.Steps.{AreMade, marks, taken_in}
@@ -45,12 +45,12 @@ invariant_of-self c = let me = c.args.self.now in let seat = c.args.seat in let 
     let new = newest v u _ taken c.take_in-records.ensures.made in
     let all : v.keep ≡ Entries = sym (ap (λ (x : View). x.keep) taken) ∙ now.moded ∙ c.in-Entries.is in
     let some : 0 < u.number = new.0 in
-    let is : u.number ≡ seat.number = seat.numbered in let long = me.sized all in let o = me.parts.ok.0 in
+    let is : u.number ≡ seat.number = seat.numbered in let long = me.sized all in let o = me.theirs.ok.0 in
     let same : u.keep ≡ v.keep = alike me seat c.requires in
     let low = seat.placed (sym seat.moded ∙ same ∙ all) in
     let marked : marks seat.number 0 u.seen ≡ spread seat.number c.take_in-records.result.items = seat.marked (sym seat.moded ∙ same ∙ all) ∙ ap (λ (rs : Listed Record). spread seat.number rs.items) (sym c.take_in-records.ensures.records) in
     let apart : (j : ℕ) (r : ℕ × List Entry) → slice_get v.retired j ≡ Some r → (r.0 ≢ seat.number) × (0 < r.0) = λ j r has. (λ twice. (new.1 j r has).0 (twice ∙ sym is), (new.1 j r has).1) in
-    let has : HasParts ((seat.number, u.seen) ∷ v.retired) (set me.parts.items (seat.number - 1) (Some c.take_in-records.result)) = one_merged v.retired me.parts.items seat.number u.seen c.take_in-records.result (omega arith) (omega arith) apart marked (me.parted all) in
+    let has : HasRecords ((seat.number, u.seen) ∷ v.retired) (set me.theirs.items (seat.number - 1) (Some c.take_in-records.result)) = one_merged v.retired me.theirs.items seat.number u.seen c.take_in-records.result (omega arith) (omega arith) apart marked (me.recorded all) in
     record {
       of = c.take_in-records.ensures.map ∙ ap (λ (m : StripedMap). m.table.shared.table_id) c.deref.ensures;
       alike = ap (λ (x : View). x.keep) taken ∙ me.alike;
@@ -58,6 +58,6 @@ invariant_of-self c = let me = c.args.self.now in let seat = c.args.seat in let 
       closed = at_retired Closed v u _ me.closed taken;
       idle = ap (λ (x : View). x.held) taken ∙ me.idle;
       sized = λ _. (let long = me.sized all in omega arith);
-      parted = λ _. subst (λ (rs : List (ℕ × List Entry)). HasParts rs (set me.parts.items (seat.number - 1) (Some c.take_in-records.result))) (sym (ap (λ (x : View). x.retired) taken))
-          (subst (λ (k : ℕ). HasParts ((k, u.seen) ∷ v.retired) (set me.parts.items (seat.number - 1) (Some c.take_in-records.result))) (sym is) has);
+      recorded = λ _. subst (λ (rs : List (ℕ × List Entry)). HasRecords rs (set me.theirs.items (seat.number - 1) (Some c.take_in-records.result))) (sym (ap (λ (x : View). x.retired) taken))
+          (subst (λ (k : ℕ). HasRecords ((k, u.seen) ∷ v.retired) (set me.theirs.items (seat.number - 1) (Some c.take_in-records.result))) (sym is) has);
     }

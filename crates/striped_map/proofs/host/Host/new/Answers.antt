@@ -8,7 +8,7 @@ use Rattle.txn_words.specs.declared.holder.Holder.TheVariants.{Begun}
 use Rattle.txn_words.specs.Shape.{own}
 use Rattle.txn_trace.specs.Legal.{IsLegal}
 use Rattle.txn_trace.proofs.BadEntries.{legal_none}
-use Rattle.striped_map.specs.Gathered.{HasParts}
+use Rattle.striped_map.specs.Gathered.{HasRecords}
 use Rattle.striped_map.specs.Rule.{view}
 use Rattle.striped_map.specs.Seats.{keep_of, known}
 use Rattle.striped_map.specs.Steps.{Sat}
@@ -19,7 +19,7 @@ use Rattle.striped_map.proofs.host.Host.new.Goals as goal
 pub invariant_of-result : goal.invariant_of-result
 invariant_of-result c = let seat = c.new.result.seat in
     let same : seat.seat ≡ c.args.first = ap (λ (s : MapSeat). s.seat) c.new.ensures ∙ c.fresh.ensures in
-    let first = c.requires.first in let parts = c.requires.parts in
+    let first = c.requires.first in let theirs = c.requires.theirs in
     let is : known seat ≡ view (keep_of c.args.map.value) 0 first.0 [] [] = ap (λ z. z.me.0) same ∙ ap (λ (m : Sat). m.0) first.1 in
     record {
       of = ap (λ z. z.table_id) same ∙ c.requires.table;
@@ -27,8 +27,8 @@ invariant_of-result c = let seat = c.new.result.seat in
       first = ap (λ (v : View). v.number) is;
       closed = at_new (known seat) (ap (λ (v : View). own v.number v.seen) is);
       idle = ap (λ (v : View). v.held) is;
-      sized = λ all. (let count = parts.2 (sym (ap (λ (v : View). v.keep) is) ∙ all) in let long = ap length parts.1 ∙ length-replicate parts.0 (let p : Option (Listed Record) = None in p) in let o = c.args.parts.ok.0 in omega arith);
-      parted = λ all. subst (λ (v : View). HasParts v.retired c.args.parts.items) (sym is) (none_merged parts.0 c.args.parts.items parts.1);
+      sized = λ all. (let count = theirs.2 (sym (ap (λ (v : View). v.keep) is) ∙ all) in let long = ap length theirs.1 ∙ length-replicate theirs.0 (let p : Option (Listed Record) = None in p) in let o = c.args.theirs.ok.0 in omega arith);
+      recorded = λ all. subst (λ (v : View). HasRecords v.retired c.args.theirs.items) (sym is) (none_merged theirs.0 c.args.theirs.items theirs.1);
     }
 
 pub new-requires-clause-legal : goal.new-requires-clause-legal

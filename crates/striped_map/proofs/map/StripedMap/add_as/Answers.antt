@@ -1,5 +1,5 @@
 use Rattle.std.proofs.Common.{◌≡◌, ℕ, ◌+◌, ◌%◌, ◌^◌, ◌<◌, ◌∙◌, List, length, sym, ap, subst, arith, lit<}
-use Rattle.stripe_part.specs.PartAt.{PartAt}
+use Rattle.stripe_shard.specs.ShardAt.{ShardAt}
 use Rattle.txn_words.specs.Held.{times}
 use Rattle.striped_map.specs.declared.view.View.{View}
 use Rattle.striped_map.specs.declared.record.Record.{Record}
@@ -12,7 +12,7 @@ use Rattle.striped_map.specs.declared.addition.Addition.{Addition}
 use Rattle.striped_map.specs.Rule.{Holds, IsKept}
 use Rattle.striped_map.specs.Additions.{appended, appended_counted, entries_of, left_of}
 use Rattle.striped_map.specs.Steps.{AddsIn}
-use Rattle.striped_map.proofs.RuleSteps.{adds_so, adds_counted, parts_at}
+use Rattle.striped_map.proofs.RuleSteps.{adds_so, adds_counted, shards_at}
 use Rattle.striped_map.proofs.Rooms.{room_after}
 use Rattle.striped_map.proofs.map.StripedMap.add_as.Goals as goal
 
@@ -34,8 +34,8 @@ load-requires g c = let map = c.args.self.now in let seat = c.args.seat.now in l
       (adds_so _ _ _ _ _ _ seat.acting (λ z. c.in_default.not-Entries (c.requires.keep ∙ sym seat.moded ∙ z)) c.requires.may),
 )
 
-pub returns-in-Entries-clause-parts : goal.returns-in-Entries-clause-parts
-returns-in-Entries-clause-parts g c = ap parts_at c.fetch_add-at.ensures.2.0
+pub returns-in-Entries-clause-shards : goal.returns-in-Entries-clause-shards
+returns-in-Entries-clause-shards g c = ap shards_at c.fetch_add-at.ensures.2.0
 
 pub invariant_of-seat : goal.invariant_of-seat
 invariant_of-seat g c = let seat = c.args.seat.now in let e = c.fetch_add-at.ensures in let w = c.fetch_add-at.new.seat.me.0 in
@@ -52,7 +52,7 @@ invariant_of-seat g c = let seat = c.args.seat.now in let e = c.fetch_add-at.ens
           let r = room_after _ c.args.what seat w adds c.requires.room all at in let l = c.push_reserved.ensures.room in omega arith;
       numbered = ap (λ (v : View). v.number) is ∙ seat.numbered;
       inside = λ s h. subst (λ z. s < z.slots) (sym e.0) (seat.inside s (subst (λ (v : View). Holds v s) is h));
-      slotted = λ s. ap (λ (c : List (ℕ × PartAt)). times s (places c)) e.2.0 ∙ seat.slotted s ∙ ap (λ (v : View). times s v.held) (sym is);
+      slotted = λ s. ap (λ (c : List (ℕ × ShardAt)). times s (places c)) e.2.0 ∙ seat.slotted s ∙ ap (λ (v : View). times s v.held) (sym is);
     }
 
 pub push_reserved-requires : goal.push_reserved-requires

@@ -3,7 +3,7 @@ use Rattle.striped_map.specs.declared.view.View.{View}
 use Rattle.striped_map.specs.Rule.{Holds}
 use Rattle.striped_map.specs.Steps.{IsAt, Sat, marks}
 use Rattle.striped_map.proofs.RuleSteps.{Slotted, brings, slotted_front}
-use Rattle.txn_words.specs.declared.seat.Phase.TheVariants.{Opened}
+use Rattle.txn_words.specs.declared.stance.Phase.TheVariants.{Opened}
 use Rattle.striped_map.proofs.map.StripedMap.bring.Goals as goal
 
 pub load-requires : goal.load-requires

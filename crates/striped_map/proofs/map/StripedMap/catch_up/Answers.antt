@@ -1,5 +1,5 @@
 use Rattle.std.proofs.Common.{ℕ, ◌<◌, List, ap, arith, ◌∙◌, sym, subst}
-use Rattle.stripe_part.specs.PartAt.{PartAt}
+use Rattle.stripe_shard.specs.ShardAt.{ShardAt}
 use Rattle.txn_words.specs.Held.{times}
 use Rattle.striped_map.proofs.Recording.{still_marked}
 use Rattle.atomic_table.specs.Table.{Joins}
@@ -7,7 +7,7 @@ use Rattle.striped_map.specs.declared.view.View.{View}
 use Rattle.striped_map.specs.Rule.{Holds, IsKept}
 use Rattle.striped_map.specs.Steps.{Sat, SeesIn, blank, heard, places}
 use Rattle.striped_map.proofs.Meets.{witnesses, hears, meets_up, sees_met}
-use Rattle.txn_words.specs.declared.seat.Phase.TheVariants.{Opened}
+use Rattle.txn_words.specs.declared.stance.Phase.TheVariants.{Opened}
 use Rattle.striped_map.proofs.Rooms.{at_between}
 use Rattle.striped_map.proofs.map.StripedMap.catch_up.Goals as goal
 
@@ -44,5 +44,5 @@ invariant_of-seat c = let seat = c.args.seat.now in let w = c.load.new.seat.me.0
       roomy = λ all at. seat.roomy all (at_between Opened _ seat.seat.me.0 w (ap (λ (v : View). v.number) is) sees.goes at);
       numbered = ap (λ (v : View). v.number) is ∙ seat.numbered;
       inside = λ s h. subst (λ z. s < z.slots) (sym (c.load.ensures.0 ∙ c.join_seat.ensures.0)) (seat.inside s (subst (λ (v : View). Holds v s) is h));
-      slotted = λ s. ap (λ (c : List (ℕ × PartAt)). times s (places c)) (c.load.ensures.2.0 ∙ ap (λ (m : Sat). m.1) c.join_seat.ensures.2) ∙ seat.slotted s ∙ ap (λ (v : View). times s v.held) (sym is);
+      slotted = λ s. ap (λ (c : List (ℕ × ShardAt)). times s (places c)) (c.load.ensures.2.0 ∙ ap (λ (m : Sat). m.1) c.join_seat.ensures.2) ∙ seat.slotted s ∙ ap (λ (v : View). times s v.held) (sym is);
     }

@@ -4,12 +4,12 @@ use Rattle.atomic_table.specs.Table.{Allows, step}
 use Rattle.striped_map.specs.declared.view.View.{View}
 use Rattle.striped_map.specs.Rule.{Holds, IsKept}
 use Rattle.striped_map.specs.Steps.{gathered, places}
-use Rattle.stripe_part.specs.PartAt.{PartAt}
+use Rattle.stripe_shard.specs.ShardAt.{ShardAt}
 use Rattle.txn_words.specs.Held.{times}
 use Rattle.striped_map.proofs.Recording.{still_marked}
 use Rattle.striped_map.proofs.MergedSeats.{gathers}
-use Rattle.striped_map.proofs.RuleSteps.{parts_at}
-use Rattle.txn_words.specs.declared.seat.Phase.TheVariants.{Opened}
+use Rattle.striped_map.proofs.RuleSteps.{shards_at}
+use Rattle.txn_words.specs.declared.stance.Phase.TheVariants.{Opened}
 use Rattle.striped_map.proofs.Rooms.{at_between}
 use Rattle.striped_map.proofs.map.StripedMap.gather.Goals as goal
 
@@ -23,8 +23,8 @@ load-requires c = let map = c.args.self.now in let s = map.sized in let is = c.c
 pub returns-clause-gathers : goal.returns-clause-gathers
 returns-clause-gathers c = let is = c.callers.ensures in (c.load.ensures.2 (omega arith)).1
 
-pub returns-clause-parts : goal.returns-clause-parts
-returns-clause-parts c = let is = c.callers.ensures in ap parts_at (c.load.ensures.2 (omega arith)).0
+pub returns-clause-shards : goal.returns-clause-shards
+returns-clause-shards c = let is = c.callers.ensures in ap shards_at (c.load.ensures.2 (omega arith)).0
 
 pub invariant_of-seat : goal.invariant_of-seat
 invariant_of-seat c = let seat = c.args.seat.now in let w = c.load.new.seat.me.0 in let map = c.args.self.now in let at = c.callers.ensures in
@@ -40,5 +40,5 @@ invariant_of-seat c = let seat = c.args.seat.now in let w = c.load.new.seat.me.0
       roomy = λ all at. seat.roomy all (at_between Opened _ seat.seat.me.0 w (ap (λ (v : View). v.number) is) sees.goes at);
       numbered = ap (λ (v : View). v.number) is ∙ seat.numbered;
       inside = λ s h. subst (λ z. s < z.slots) (sym (c.load.ensures.0)) (seat.inside s (subst (λ (v : View). Holds v s) is h));
-      slotted = λ s. ap (λ (c : List (ℕ × PartAt)). times s (places c)) e.0 ∙ seat.slotted s ∙ ap (λ (v : View). times s v.held) (sym is);
+      slotted = λ s. ap (λ (c : List (ℕ × ShardAt)). times s (places c)) e.0 ∙ seat.slotted s ∙ ap (λ (v : View). times s v.held) (sym is);
     }

@@ -1,6 +1,6 @@
 use Rattle.std.proofs.Common.{◌∙◌, ◌++◌, ◌∷◌, [], map, refl, ap, inr}
 use Rattle.thread_runs.proofs.Vocabulary.{outcome_told}
-use Rattle.script_worker.proofs.Vocabulary.{closed_seat, map-append, seat_after, slice_get_past, slice_get_read}
+use Rattle.script_worker.proofs.Vocabulary.{closed_stance, map-append, stance_after, slice_get_past, slice_get_read}
 use Rattle.thread_runs.proofs.Rounds.{so_far_start, so_far_more, so_far_all}
 use Rattle.thread_runs.proofs.worker.Orders.outcomes.Goals as goal
 
@@ -8,7 +8,7 @@ pub loop-script-init : goal.loop-script-init
 loop-script-init g c = (
   record { number = refl; limits = refl },
   so_far_start _ _ _ _ _ _ _ _ c.number-number.ensures (ap (map outcome_told) c.new-outcomes.ensures.items) c.requires.fresh,
-  inr (closed_seat, ap seat_after c.requires.fresh, refl),
+  inr (closed_stance, ap stance_after c.requires.fresh, refl),
 )
 
 pub loop-script-preserved : goal.loop-script-preserved

@@ -1,0 +1,6 @@
+pub mod MapAt
+pub mod Probes
+pub mod Slots
+pub mod ShardAt
+pub mod Calls
+pub mod Stored
