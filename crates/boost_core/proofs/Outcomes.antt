@@ -1,7 +1,7 @@
 -- Shows that a caller's step is a move that keeps the core's invariants, because it adds no entry
 -- (`Stays`), or one that the caller's stance allows and has room for (`Grows`).
 use Rattle.std.proofs.Common.{◌≡◌, ◌⊎◌, inl, inr, ℕ, ◌+◌, ◌-◌, ◌<◌, ◌≤◌, ◌^◌, Bool, true, false, cond, refl, List, [], ◌∷◌, ◌++◌, length, Option, Some, None, sym, ap, subst, ◌∙◌, arith, map, slice_get, slice_set, sum_by, option_to_list, append-nil, option_map, nat_eq, nat_lt}
-use Rattle.boost_core.proofs.Vocabulary.{AllByRecursion, false≢true, slice_get_within, Entry, Step, Answer, Phase, Closed, caller_of, Stance, RoomyStance, row, own, Op, Put, Refusal, IsLevelIn, stance_leveled, TableAt, cursor_changes, table_changes, last_of, linked_of, entries_of, NoMemory, StampsUsedUp, StaleWord, refusal_of, tests_of, owner_of, first_of, owed_in, reserved, Counts, Session, counts_after, placed_then, Move, IsAllowed, State, Claim, Lock, Right, Held, Goes, IsClaim, may_come, reserved_by, Side, owed_of, World, Tells, LastPlacedFits, state_of, session_changes, option_eq, Map, is_began, is_commit, now, holder_of, Waiting, Next, MapJob, PendingAt, holder_by, is_waiting, is_saved, LogAt, kept_at, newest_above, Releases, without_caller, held_by, side_of, target_in, key_of_newest, IsSoughtAt, Waits, changes_of}
+use Rattle.boost_core.proofs.Vocabulary.{AllByRecursion, standing_owed, false≢true, slice_get_within, Entry, Step, Answer, Phase, Closed, caller_of, Stance, RoomyStance, row, own, Op, Put, Refusal, IsLevelIn, stance_leveled, TableAt, cursor_changes, table_changes, last_of, linked_of, entries_of, NoMemory, StampsUsedUp, StaleWord, refusal_of, tests_of, owner_of, first_of, owed_in, reserved, Counts, Session, counts_after, placed_then, Move, IsAllowed, State, Claim, Lock, Right, Held, Goes, IsClaim, may_come, reserved_by, Side, owed_of, World, Tells, LastPlacedFits, state_of, session_changes, option_eq, Map, is_began, is_commit, now, holder_of, Waiting, Next, MapJob, PendingAt, holder_by, is_waiting, is_saved, LogAt, kept_at, newest_above, Releases, without_caller, held_by, side_of, target_in, key_of_newest, IsSoughtAt, Waits, changes_of}
 use Rattle.txn_trace.proofs.Room.{reserved_for, reserved_enough, owed_by-row}
 use Rattle.boost_core.specs.Machine.{after}
 use Rattle.boost_core.specs.Adding.{Enters, CanAdd}
@@ -171,11 +171,6 @@ goes_within claim state new step answer (inl stale) =
     subst (λ a. AreWithin (reserved_by claim step) (entries_of step a)) (sym stale.refused)
     (refused_within (reserved_by claim step) step StaleWord)
 goes_within claim state new step answer (inr goes) = may_within claim step answer goes.0
-
--- A caller owes at least one entry for each of its standing changes.
-standing_owed : (q : Phase) (standing : ℕ) (kept : List ℕ) → IsLevelIn q standing kept → standing ≤ owed_in standing q
-standing_owed Closed standing kept is = let none : standing ≡ 0 = is.0 in omega arith
-standing_owed _ standing kept is = omega arith
 
 module _ (w : World) (tells : Tells w) (c : ℕ) (x y : Session) (at : slice_get w.sessions c ≡ Some x) (step : Step) (answer : Answer) (t' : TableAt) (locks' : List (Option ℕ)) {claim : Claim} (called : CalledBy claim w c x step answer y t' locks') where
   stays : option_to_list None ≡ entries_of step answer → Stays w c x y t' locks' (counts_after w.counts answer)

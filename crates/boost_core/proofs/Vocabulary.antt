@@ -77,7 +77,7 @@ pub use Rattle.txn_trace.specs.Log.{log_of}
 pub use Rattle.txn_trace.specs.Now.{now}
 pub use Rattle.txn_trace.specs.Serial.{serial}
 pub use Rattle.txn_words.proofs.Effects.{after_unchanged, changes-reply, get-after_other}
-pub use Rattle.txn_words.proofs.Levels.{IsLevelIn, stance_leveled}
+pub use Rattle.txn_words.proofs.Levels.{IsLevelIn, stance_leveled, standing_owed}
 pub use Rattle.txn_words.proofs.Maps.{get-insert-here, get-remove-here, get-set_at, same_map}
 pub use Rattle.txn_words.specs.Entries.{entries_of}
 pub use Rattle.txn_words.specs.Kinds.{caller_of, is_began, is_commit}

@@ -13,7 +13,8 @@ use Rattle.history_check.specs.declared.verdict.Rule.{Rule}
 use Rattle.history_check.specs.declared.verdict.Verdict.{Verdict}
 use Rattle.history_check.specs.declared.verdict.Verdict.TheVariants.{Legal, Illegal}
 use Rattle.history_check.specs.Verdicts.{number_of, meaning_of, SaysLegal}
-use Rattle.history_check.specs.FirstBad.{first_bad_by, verdict_by, FedBy}
+use Rattle.txn_trace.specs.Legal.{first_bad_by, verdict_by}
+use Rattle.history_check.specs.FirstBad.{FedBy}
 
 pub none_there : {A : Type 0} (o : Option A) → is_some o ≡ false → o ≡ None
 none_there None is = refl

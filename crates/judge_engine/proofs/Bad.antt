@@ -9,7 +9,7 @@ use Rattle.txn_trace.specs.Legal as legal
 use Rattle.txn_trace.proofs.Verdicts.{first_bad_is}
 use Rattle.history_check.specs.declared.verdict.Rule.{Rule}
 use Rattle.history_check.specs.declared.verdict.Verdict.TheVariants.{Illegal}
-use Rattle.history_check.specs.FirstBad.{first_bad_by}
+use Rattle.txn_trace.specs.Legal.{first_bad_by}
 use Rattle.history_check.specs.Verdicts.{number_of}
 use Rattle.serial_check.specs.Serializable as serializable
 use Rattle.serial_check.specs.Serializable.{IsSerializableByCommits}

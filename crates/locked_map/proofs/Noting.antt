@@ -1,14 +1,13 @@
 -- One more entry that a caller sees.
 use Rattle.std.proofs.Common.{[], ℕ, ◌++◌, ◌+◌, ◌-◌, ◌<◌, ◌^◌, ◌∙◌, ◌∷◌, ◌≡◌, ◌≤◌, Bool, List, None, Option, Some, ap, arith, is_some}
 use Rattle.std.proofs.Common.{length, length-append, refl, subst, sym, true, vec_capacity, vec_len}
-use Rattle.locked_map.specs.Vocabulary.{AllByRecursion, Answer, Begin, Entry, RoomyStance, Stance, Standing, Step, Vec, entries_of, owed_by}
+use Rattle.locked_map.specs.Vocabulary.{AllByRecursion, Answer, Begin, Entry, RoomyStance, Stance, Step, Vec, entries_of, owed_by}
 use Rattle.locked_map.specs.Vocabulary.{owed_in, reserved, row, stance_after}
 use Rattle.locked_map.proofs.Vocabulary.{fold-append}
 use Rattle.txn_trace.proofs.Room.{owed_by-row, reserved_enough, reserved_for}
-use Rattle.txn_words.proofs.Levels.{IsLevelIn, stance_leveled}
+use Rattle.txn_words.proofs.Levels.{stance_leveled, standing_owed}
 use Rattle.locked_map.proofs.Phases.{stance_on_more}
 use Rattle.locked_map.specs.Noted.{HasRoomFor, IsNoted, adds_entry, began_by, last_txn}
-use Rattle.txn_words.specs.declared.stance.Phase.TheVariants as stances
 
 -- If `entries_of` gives an entry, `adds_entry` is true for the step.
 adds_if : (step : Step) (a : Answer) (e : Entry) → e ∷ [] ≡ entries_of step a → adds_entry step ≡ true
@@ -28,10 +27,6 @@ owed_noted es s e step a room at is all one =
 
 -- The number of a stance's changes that were not taken back is at most the number of entries that the
 -- stance owes. There is room for these entries, so the number of changes fits in 64 bits.
-standing_owed : (q : Standing) (standing : ℕ) (kept : List ℕ) → IsLevelIn q standing kept → standing ≤ owed_in standing q
-standing_owed stances.Closed standing kept is = let none = is.0 in omega (arith, none)
-standing_owed q standing kept is = omega arith
-
 pub standing_small : (es : Vec Entry) (p : RoomyStance) (w : Bool) (txn parts amount : ℕ) → IsNoted es p w txn parts amount → is_some (stance_after es.items) ≡ true → p.stance.standing < 2 ^ 64 - 1
 standing_small es p w txn parts amount inv whole =
     let at = inv.its_stance (inv.fits ∙ whole) in

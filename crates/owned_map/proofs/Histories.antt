@@ -13,7 +13,7 @@ use Rattle.txn_words.specs.declared.stance.Phase.TheVariants.{Closed, Opened, Wa
 use Rattle.txn_words.specs.Sizes.{Sizes}
 use Rattle.txn_words.specs.Map.{Map, key_of, reply_of, after}
 use Rattle.txn_trace.specs.Now.{now}
-use Rattle.txn_trace.specs.Log.{log_of}
+use Rattle.txn_trace.specs.Log.{log_of, rolled_back}
 use Rattle.txn_words.specs.Kinds.{caller_of, is_began, is_commit}
 use Rattle.txn_words.specs.Shape.{Stance, stance_after, own, closed_stance, changes, IsShaped, is_numbered, how_many}
 use Rattle.txn_trace.specs.Legal.{IsLegal}
@@ -23,7 +23,7 @@ use Rattle.txn_trace.proofs.Pushes.{own-push_out}
 use Rattle.txn_trace.proofs.EntrySteps.{Next}
 use Rattle.txn_trace.proofs.Entries as laws
 use Rattle.boost_core.proofs.Due.{set_at-after}
-use Rattle.owned_map.specs.Within.{taken_back, IsBasedOn}
+use Rattle.owned_map.specs.Within.{IsBasedOn}
 
 -- If a caller has a stance after a history, and entries of the right shape follow, the caller has a
 -- stance after these entries too.
@@ -51,26 +51,26 @@ stance_there c h shaped = the_stance (stance_after (own c h)) (stance_from c [] 
 -- If the change that an operation adds to the log is taken back, the map is the one before the
 -- operation.
 noted : (op : Op) (x : Option ℕ) (jobs : List (ℕ × Option ℕ)) (m : Map) → x ≡ reply_of m op
-    → taken_back (cond (changes op x) ((key_of op, x) ∷ jobs) jobs) (after m op) ≡ taken_back jobs m
-noted op x jobs m right = subst (λ y. taken_back (cond (changes op y) ((key_of op, y) ∷ jobs) jobs) (after m op) ≡ taken_back jobs m) (sym right) (at (changes op (reply_of m op)) refl)
+    → rolled_back (after m op) (cond (changes op x) ((key_of op, x) ∷ jobs) jobs) ≡ rolled_back m jobs
+noted op x jobs m right = subst (λ y. rolled_back (after m op) (cond (changes op y) ((key_of op, y) ∷ jobs) jobs) ≡ rolled_back m jobs) (sym right) (at (changes op (reply_of m op)) refl)
   where
-    at : (b : Bool) → changes op (reply_of m op) ≡ b → taken_back (cond (changes op (reply_of m op)) ((key_of op, reply_of m op) ∷ jobs) jobs) (after m op) ≡ taken_back jobs m
-    at true is = ap (λ b. taken_back (cond b ((key_of op, reply_of m op) ∷ jobs) jobs) (after m op)) is ∙ ap (taken_back jobs) (set_at-after m op)
-    at false is = ap (λ b. taken_back (cond b ((key_of op, reply_of m op) ∷ jobs) jobs) (after m op)) is
-        ∙ ap (taken_back jobs) (after_unchanged m op (sym (changes-reply m op) ∙ is))
+    at : (b : Bool) → changes op (reply_of m op) ≡ b → rolled_back (after m op) (cond (changes op (reply_of m op)) ((key_of op, reply_of m op) ∷ jobs) jobs) ≡ rolled_back m jobs
+    at true is = ap (λ b. rolled_back (after m op) (cond b ((key_of op, reply_of m op) ∷ jobs) jobs)) is ∙ ap (λ (n : Map). rolled_back n jobs) (set_at-after m op)
+    at false is = ap (λ b. rolled_back (after m op) (cond b ((key_of op, reply_of m op) ∷ jobs) jobs)) is
+        ∙ ap (λ (n : Map). rolled_back n jobs) (after_unchanged m op (sym (changes-reply m op) ∙ is))
 
 module _ {rule : Holder} (limits : Sizes) (c : ℕ) (base : Map) (h : List Entry) where
   -- Suppose that the caller adds one more entry. If taking back the changes in its log then gives
   -- `base`, `IsBasedOn` holds after this entry.
   pub stands_after : (e : Entry) → caller_of e ≡ c → nat_le limits.callers c ≡ false → (stance : Stance) (log : List (ℕ × Option ℕ)) (committed current : Map) (holder : ℕ → Option ℕ)
-      → Next rule limits.stripes h e stance log committed current holder → taken_back log current ≡ base → IsBasedOn rule limits c base stance.phase (h ++ e ∷ [])
+      → Next rule limits.stripes h e stance log committed current holder → rolled_back current log ≡ base → IsBasedOn rule limits c base stance.phase (h ++ e ∷ [])
   stands_after e mine within stance log committed current holder next back = record {
     within = within;
     legal = next.legal;
     stance = stance;
     stance_is = subst (λ d. stance_after (own d (h ++ e ∷ [])) ≡ Some stance) mine next.stance_is;
     phase_is = refl;
-    back = subst (λ d. taken_back (log_of d (h ++ e ∷ [])) (now (h ++ e ∷ [])) ≡ base) mine (ap (λ l. taken_back l (now (h ++ e ∷ []))) next.log_is ∙ ap (taken_back log) next.now_is ∙ back);
+    back = subst (λ d. rolled_back (now (h ++ e ∷ [])) (log_of d (h ++ e ∷ [])) ≡ base) mine (ap (λ l. rolled_back (now (h ++ e ∷ [])) l) next.log_is ∙ ap (λ (n : Map). rolled_back n log) next.now_is ∙ back);
   }
 
   pub asked_now : (op : Op) → IsBasedOn rule limits c base Opened h → is_locked rule limits.stripes h (entry.Asked c op) ≡ true
@@ -102,13 +102,13 @@ module _ {rule : Holder} (limits : Sizes) (c : ℕ) (base : Map) (h : List Entry
       let newest = laws.newest h c stands.stance stands.stance_is some in
       let next = laws.undone_to_end limits.stripes h stands.legal c stands.stance stands.stance_is stands.phase_is some newest.0 newest.1 newest.2 in
       subst (λ q. IsBasedOn rule limits c base q (h ++ entry.Undone c ∷ [])) stands.phase_is
-      (stands_after (entry.Undone c) refl stands.within _ _ _ _ _ next (ap (λ l. taken_back l (now h)) (sym newest.2) ∙ stands.back))
+      (stands_after (entry.Undone c) refl stands.within _ _ _ _ _ next (ap (λ l. rolled_back (now h) l) (sym newest.2) ∙ stands.back))
 
   pub aborted_now : (stands : IsBasedOn rule limits c base LeavingToEnd h) → stands.stance.standing ≡ 0
       → (now (h ++ entry.Aborted c ∷ []) ≡ base) × (stance_after (own c (h ++ entry.Aborted c ∷ [])) ≡ Some closed_stance)
   aborted_now stands none =
       let next = laws.aborted limits.stripes h stands.legal c stands.stance stands.stance_is stands.phase_is none in
-      (next.now_is ∙ sym (ap (λ l. taken_back l (now h)) (no_jobs (log_of c h) (laws.length-log_of h c stands.stance stands.stance_is ∙ none))) ∙ stands.back, next.stance_is)
+      (next.now_is ∙ sym (ap (λ l. rolled_back (now h) l) (no_jobs (log_of c h) (laws.length-log_of h c stands.stance stands.stance_is ∙ none))) ∙ stands.back, next.stance_is)
     where
       no_jobs : (jobs : List (ℕ × Option ℕ)) → length jobs ≡ 0 → jobs ≡ []
       no_jobs [] is = refl

@@ -24,11 +24,12 @@ use Rattle.txn_words.specs.Shape.{Stance, stance_after, own, row, is_numbered, I
 use Rattle.txn_trace.specs.Legal.{IsLegal}
 use Rattle.txn_trace.proofs.EntrySteps.{stance-own}
 use Rattle.txn_trace.proofs.Entries as laws
+use Rattle.txn_trace.specs.Log.{rolled_back}
 use Rattle.boost_core.specs.State.{State, holder_by, stance_in}
 use Rattle.boost_core.specs.Refusals.{is_closed, is_leaving, is_waiting, has_job}
 use Rattle.boost_core.specs.Machine.{Move, Moves}
 use Rattle.boost_core.specs.Plain.{Returns, undoing, undone}
-use Rattle.owned_map.specs.Within.{taken_back, IsBasedOn, IsAt, CanAbort, GoesOn}
+use Rattle.owned_map.specs.Within.{IsBasedOn, IsAt, CanAbort, GoesOn}
 use Rattle.owned_map.proofs.Histories.{stands_after}
 use Rattle.owned_map.proofs.Steps.{to_state, unmoved, phase_in, leaves_on, ready, unready, based}
 use Rattle.owned_map.proofs.Only as only
@@ -52,7 +53,7 @@ module _ {rule : Holder} (limits : Sizes) (c : ℕ) (base : Map) (h : List Entry
       let newest = laws.newest h c stands.stance stands.stance_is (some_of (slice_index stands.stance.kept n) stands.stance.standing more) in
       let next = laws.undone_to limits.stripes h stands.legal c n stands.stance stands.stance_is stands.phase_is more newest.0 newest.1 newest.2 in
       subst (λ q. IsBasedOn rule limits c base q (h ++ entry.Undone c ∷ [])) stands.phase_is
-      (stands_after limits c base h (entry.Undone c) refl stands.within _ _ _ _ _ next (ap (λ l. taken_back l (now h)) (sym newest.2) ∙ stands.back))
+      (stands_after limits c base h (entry.Undone c) refl stands.within _ _ _ _ _ next (ap (λ l. rolled_back (now h) l) (sym newest.2) ∙ stands.back))
     where
       some_of : (m k : ℕ) → m < k → 0 < k
       some_of m k less = omega arith

@@ -18,7 +18,7 @@ use Rattle.txn_words.specs.declared.stance.Phase.TheVariants.{Opened, Waiting, L
 use Rattle.txn_words.specs.Sizes.{Sizes}
 use Rattle.txn_words.specs.Map.{Map, key_of, reply_of, after, set_at}
 use Rattle.txn_trace.specs.Now.{now}
-use Rattle.txn_trace.specs.Log.{log_of}
+use Rattle.txn_trace.specs.Log.{log_of, rolled_back}
 use Rattle.txn_words.specs.Kinds.{caller_of}
 use Rattle.txn_words.specs.Shape.{Stance, stance_after, own, closed_stance, changes, IsShaped}
 use Rattle.txn_trace.specs.Legal.{IsLegal}
@@ -32,7 +32,7 @@ use Rattle.boost_core.specs.State.{State, holder_by, stance_in}
 use Rattle.boost_core.specs.Refusals.{has_job, has_stamp_for}
 use Rattle.boost_core.specs.Machine.{Move, Moves}
 use Rattle.boost_core.specs.Plain.{Operates, Returns, undoing, undone}
-use Rattle.owned_map.specs.Within.{taken_back, map_at, level_count, KeepsLevels, KeepsSavepoints, IsSaved, IsBackAt, IsBasedOn, IsAt, IsGrown}
+use Rattle.owned_map.specs.Within.{map_at, level_count, KeepsLevels, KeepsSavepoints, IsSaved, IsBackAt, IsBasedOn, IsAt, IsGrown}
 use Rattle.owned_map.proofs.Growing.{kept_by}
 use Rattle.owned_map.proofs.Steps.{to_state, unmoved, phase_in, ready, based, replied, waits}
 use Rattle.owned_map.proofs.Levels.{past, left_to_now, undone_to_now, reached_at}
@@ -40,7 +40,7 @@ use Rattle.boost_core.proofs.SideRefusals.{first_none}
 
 -- The map at a level, computed from the stance, the log and the present map.
 abbrev level_map : ℕ → Stance → List (ℕ × Option ℕ) → Map → Map
-level_map n stance log m = taken_back (take (stance.standing - slice_index stance.kept n) log) m
+level_map n stance log m = rolled_back m (take (stance.standing - slice_index stance.kept n) log)
 
 -- A caller's levels below this number have the same maps in two histories.
 abbrev SameLevels : ℕ → ℕ → List Entry → List Entry → Type 0
@@ -81,30 +81,30 @@ module _ {rule : Holder} {stripes c : ℕ} (h : List Entry) (e : Entry) (mine : 
 
 -- If an operation adds a change to the log, the map at each level stays the same.
 noted_level : (n : ℕ) (op : Op) (x : Option ℕ) (standing : ℕ) (kept : List ℕ) (log : List (ℕ × Option ℕ)) (m : Map) → get_or kept n 0 ≤ standing → x ≡ reply_of m op
-    → taken_back (take (cond (changes op x) (standing + 1) standing - get_or kept n 0) (cond (changes op x) ((key_of op, x) ∷ log) log)) (after m op)
-    ≡ taken_back (take (standing - get_or kept n 0) log) m
+    → rolled_back (after m op) (take (cond (changes op x) (standing + 1) standing - get_or kept n 0) (cond (changes op x) ((key_of op, x) ∷ log) log))
+    ≡ rolled_back m (take (standing - get_or kept n 0) log)
 noted_level n op x standing kept log m within right =
-    subst (λ y. taken_back (take (cond (changes op y) (standing + 1) standing - get_or kept n 0) (cond (changes op y) ((key_of op, y) ∷ log) log)) (after m op) ≡ taken_back (take (standing - get_or kept n 0) log) m) (sym right) (at (changes op (reply_of m op)) refl)
+    subst (λ y. rolled_back (after m op) (take (cond (changes op y) (standing + 1) standing - get_or kept n 0) (cond (changes op y) ((key_of op, y) ∷ log) log)) ≡ rolled_back m (take (standing - get_or kept n 0) log)) (sym right) (at (changes op (reply_of m op)) refl)
   where
     one_more : standing + 1 - get_or kept n 0 ≡ suc (standing - get_or kept n 0)
     one_more = omega (arith, within)
 
     at : (b : Bool) → changes op (reply_of m op) ≡ b
-        → taken_back (take (cond (changes op (reply_of m op)) (standing + 1) standing - get_or kept n 0) (cond (changes op (reply_of m op)) ((key_of op, reply_of m op) ∷ log) log)) (after m op)
-        ≡ taken_back (take (standing - get_or kept n 0) log) m
+        → rolled_back (after m op) (take (cond (changes op (reply_of m op)) (standing + 1) standing - get_or kept n 0) (cond (changes op (reply_of m op)) ((key_of op, reply_of m op) ∷ log) log))
+        ≡ rolled_back m (take (standing - get_or kept n 0) log)
     at true is =
-        ap (λ b. taken_back (take (cond b (standing + 1) standing - get_or kept n 0) (cond b ((key_of op, reply_of m op) ∷ log) log)) (after m op)) is
-        ∙ ap (λ k. taken_back (take k ((key_of op, reply_of m op) ∷ log)) (after m op)) one_more
-        ∙ ap (taken_back (take (standing - get_or kept n 0) log)) (set_at-after m op)
+        ap (λ b. rolled_back (after m op) (take (cond b (standing + 1) standing - get_or kept n 0) (cond b ((key_of op, reply_of m op) ∷ log) log))) is
+        ∙ ap (λ k. rolled_back (after m op) (take k ((key_of op, reply_of m op) ∷ log))) one_more
+        ∙ ap (λ (n : Map). rolled_back n (take (standing - get_or kept n 0) log)) (set_at-after m op)
     at false is =
-        ap (λ b. taken_back (take (cond b (standing + 1) standing - get_or kept n 0) (cond b ((key_of op, reply_of m op) ∷ log) log)) (after m op)) is
-        ∙ ap (taken_back (take (standing - get_or kept n 0) log)) (after_unchanged m op (sym (changes-reply m op) ∙ is))
+        ap (λ b. rolled_back (after m op) (take (cond b (standing + 1) standing - get_or kept n 0) (cond b ((key_of op, reply_of m op) ∷ log) log))) is
+        ∙ ap (λ (n : Map). rolled_back n (take (standing - get_or kept n 0) log)) (after_unchanged m op (sym (changes-reply m op) ∙ is))
 
 undone_level : (standing kept : ℕ) (log jobs : List (ℕ × Option ℕ)) (job : ℕ × Option ℕ) (m : Map) → kept < standing → log ≡ job ∷ jobs
-    → taken_back (take (standing - 1 - kept) jobs) (set_at m job.0 job.1) ≡ taken_back (take (standing - kept) log) m
+    → rolled_back (set_at m job.0 job.1) (take (standing - 1 - kept) jobs) ≡ rolled_back m (take (standing - kept) log)
 undone_level standing kept log jobs job m more is =
     let one_more : standing - kept ≡ suc (standing - 1 - kept) = omega (arith, more) in
-    sym (ap (λ k. taken_back (take k log) m) one_more ∙ ap (λ l. taken_back (take (suc (standing - 1 - kept)) l) m) is)
+    sym (ap (λ k. rolled_back m (take k log)) one_more ∙ ap (λ l. rolled_back m (take (suc (standing - 1 - kept)) l)) is)
 
 module _ {rule : Holder} (limits : Sizes) (c : ℕ) (base : Map) (h : List Entry) where
   asked_levels : (op : Op) → IsBasedOn rule limits c base Opened h → is_locked rule limits.stripes h (entry.Asked c op) ≡ true → (n : ℕ) → map_at c n (h ++ entry.Asked c op ∷ []) ≡ map_at c n h
@@ -145,10 +145,10 @@ module _ {rule : Holder} (limits : Sizes) (c : ℕ) (base : Map) (h : List Entry
         levels_next h (entry.Saved c) refl next ∙ length_push kept stands.stance.standing ∙ sym (ap (λ k. k + 1) (levels_are h stands)),
         ap (λ k. map_at c k (h ++ entry.Saved c ∷ [])) (levels_are h stands)
             ∙ map_next h (entry.Saved c) refl next (length kept)
-            ∙ ap (λ k. taken_back (take k (log_of c h)) (now h)) none,
+            ∙ ap (λ k. rolled_back (now h) (take k (log_of c h))) none,
         λ n less.
             map_next h (entry.Saved c) refl next n
-            ∙ ap (λ k. taken_back (take (stands.stance.standing - k) (log_of c h)) (now h)) (get_or_append_left kept (stands.stance.standing ∷ []) 0 n (subst (λ k. n < k) (levels_are h stands) less))
+            ∙ ap (λ k. rolled_back (now h) (take (stands.stance.standing - k) (log_of c h))) (get_or_append_left kept (stands.stance.standing ∷ []) 0 n (subst (λ k. n < k) (levels_are h stands) less))
             ∙ sym (map_is h stands n),
       )
 
@@ -183,11 +183,11 @@ module _ {rule : Holder} (limits : Sizes) (c : ℕ) (base : Map) (h : List Entry
       let here : get_or stands.stance.kept m 0 ≡ stands.stance.standing = reached in
       let none : stands.stance.standing - get_or stands.stance.kept m 0 ≡ 0 = omega (arith, here) in
       let fits : m + 1 ≤ length stands.stance.kept = omega (arith, there) in (
-        next.now_is ∙ sym (map_is h stands m ∙ ap (λ k. taken_back (take k (log_of c h)) (now h)) none),
+        next.now_is ∙ sym (map_is h stands m ∙ ap (λ k. rolled_back (now h) (take k (log_of c h))) none),
         levels_next h (entry.Returned c m) refl next ∙ length-take-le (m + 1) stands.stance.kept fits,
         λ n less.
             map_next h (entry.Returned c m) refl next n
-            ∙ ap (λ k. taken_back (take (stands.stance.standing - k) (log_of c h)) (now h)) (get_or-take (m + 1) stands.stance.kept n 0 less)
+            ∙ ap (λ k. rolled_back (now h) (take (stands.stance.standing - k) (log_of c h))) (get_or-take (m + 1) stands.stance.kept n 0 less)
             ∙ sym (map_is h stands n),
       )
 

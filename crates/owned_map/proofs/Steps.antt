@@ -16,7 +16,7 @@ use Rattle.txn_words.specs.declared.stance.Phase.{Phase}
 use Rattle.txn_words.specs.declared.stance.Phase.TheVariants.{Closed, Opened, Waiting, LeavingTo, LeavingToEnd}
 use Rattle.txn_words.specs.Map.{Map, reply_of}
 use Rattle.txn_words.specs.Map as map
-use Rattle.txn_trace.specs.Log.{log_of}
+use Rattle.txn_trace.specs.Log.{log_of, rolled_back}
 use Rattle.txn_trace.specs.Now.{now}
 use Rattle.txn_words.specs.Shape.{Stance, closed_stance, stance_after, own}
 use Rattle.txn_trace.specs.Legal.{IsLegal}
@@ -25,7 +25,7 @@ use Rattle.boost_core.specs.Refusals.{refusal_of, is_closed, is_leaving, is_wait
 use Rattle.boost_core.specs.Answers.{IsReply, is_at_end}
 use Rattle.boost_core.specs.Machine.{Move, Happens, Moves}
 use Rattle.boost_core.specs.Plain.{Operates, Aborts, Ends, Leaves, undoing, undone}
-use Rattle.owned_map.specs.Within.{taken_back, IsBasedOn, IsAt, CanAbort, IsIdle, GoesOn, HasDone, IsTakenBack, IsCommitted}
+use Rattle.owned_map.specs.Within.{IsBasedOn, IsAt, CanAbort, IsIdle, GoesOn, HasDone, IsTakenBack, IsCommitted}
 use Rattle.owned_map.proofs.Histories.{stance_there, began_now, asked_now, busy_now, did_now, left_now, undone_now, aborted_now, committed_now}
 use Rattle.owned_map.proofs.Only as only
 use Rattle.boost_core.proofs.SideRefusals.{closed_is, first_none}
@@ -126,7 +126,7 @@ unready s c rest =
     (cond (is_waiting (stance_in s.history c).phase) (Some refusals.OperationUnfinished) rest)))
 
 abbrev pub based : ℕ → State → Map
-based c s = taken_back (log_of c s.history) (now s.history)
+based c s = rolled_back (now s.history) (log_of c s.history)
 
 pub ready : (s : State) (c : ℕ) (rest : Option Refusal) → IsLegal (holder_by s.words) s.limits.stripes s.history → unready s c rest ≡ None → IsAt c (based c s) Opened s
 ready s c rest legal free =

@@ -13,20 +13,14 @@ use Rattle.txn_words.specs.declared.stance.Phase.{Phase}
 use Rattle.txn_words.specs.declared.stance.Phase.TheVariants.{Opened, LeavingToEnd}
 use Rattle.txn_words.specs.Kinds.{is_commit}
 use Rattle.txn_words.specs.Sizes.{Sizes}
-use Rattle.txn_words.specs.Map.{Map, count_of, reply_of, after, set_at}
+use Rattle.txn_words.specs.Map.{Map, count_of, reply_of, after}
 use Rattle.txn_trace.specs.Now.{now}
-use Rattle.txn_trace.specs.Log.{log_of}
+use Rattle.txn_trace.specs.Log.{log_of, rolled_back}
 use Rattle.txn_words.specs.Stances.{is_closed}
 use Rattle.txn_words.specs.Shape.{Stance, stance_after, own}
 use Rattle.txn_trace.specs.Legal.{IsLegal}
 use Rattle.boost_core.specs.State.{State, holder_by, stance_in}
 use Rattle.boost_core.specs.Machine.{Moves}
-
--- The map after these changes are taken back, in the order of the list. Each change is given by its
--- key and the value that the key had before.
-abbrev pub taken_back : List (ℕ × Option ℕ) → Map → Map
-taken_back [] m = m
-taken_back (job ∷ jobs) m = taken_back jobs (set_at m job.0 job.1)
 
 -- A caller is in this phase. If the changes in the caller's log are taken back, the map is `base`.
 pub record IsBasedOn (rule : Holder) (limits : Sizes) (c : ℕ) (base : Map) (phase : Phase)
@@ -36,7 +30,7 @@ pub record IsBasedOn (rule : Holder) (limits : Sizes) (c : ℕ) (base : Map) (ph
   pub stance : Stance
   pub stance_is : stance_after (own c h) ≡ Some stance
   pub phase_is : stance.phase ≡ phase
-  pub back : taken_back (log_of c h) (now h) ≡ base
+  pub back : rolled_back (now h) (log_of c h) ≡ base
 
 abbrev pub IsAt : ℕ → Map → Phase → State → Type 0
 IsAt c base phase state =
@@ -52,8 +46,8 @@ CanAbort c base state = IsAt c base Opened state ⊎ IsAt c base LeavingToEnd st
 -- savepoint's number.
 abbrev pub map_at : ℕ → ℕ → List Entry → Map
 map_at c level h =
-    taken_back (take ((stance_in h c).standing - slice_index (stance_in h c).kept level) (log_of c h))
-    (now h)
+    rolled_back (now h)
+    (take ((stance_in h c).standing - slice_index (stance_in h c).kept level) (log_of c h))
 
 -- The number of levels of a caller.
 abbrev pub level_count : ℕ → List Entry → ℕ

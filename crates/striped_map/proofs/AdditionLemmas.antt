@@ -20,7 +20,7 @@ use Rattle.txn_trace.specs.Locks.{asks_in, stripe_of, holder_of, has_begun, is_l
 use Rattle.txn_trace.specs.Serial.{serial}
 use Rattle.txn_words.specs.Shape.{Stance, changes, row, stance_after, own, how_many}
 use Rattle.txn_trace.specs.Legal.{IsLegal, runs, is_running}
-use Rattle.txn_trace.specs.Log.{log_after, log_of}
+use Rattle.txn_trace.specs.Log.{log_after, log_of, rolled_back}
 use Rattle.txn_trace.proofs.Pushes.{how_many-push}
 use Rattle.txn_trace.proofs.Callers.{not_equal}
 use Rattle.txn_words.proofs.Effects.{get-after_other, get-after_same}
@@ -32,7 +32,7 @@ use Rattle.txn_trace.proofs.HeldStripes.{log_held}
 use Rattle.txn_words.proofs.Maps.{get-set_at}
 use Rattle.striped_map.specs.declared.view.View.{View}
 use Rattle.striped_map.specs.Rule.{Holds, HasSeen}
-use Rattle.striped_map.specs.Steps.{StateAfter, at_begin, at_end, rolled_back, undoing, noting, saving, returning}
+use Rattle.striped_map.specs.Steps.{StateAfter, at_begin, at_end, undoing, noting, saving, returning}
 use Rattle.striped_map.specs.Adding.{Grows, GoesOnFrom, Lands, MayAdd}
 
 abbrev pub Job : Type 0

@@ -24,11 +24,12 @@ use Rattle.txn_words.proofs.Holding.{times_reverse, times_at, at_times, removed_
 use Rattle.txn_words.proofs.Maps.{get-insert-here, get-remove-here, get-set_at}
 use Rattle.stripe_shard.specs.ShardAt.{ShardAt}
 use Rattle.stripe_shard.specs.Calls.{Does, TakesBack}
+use Rattle.txn_trace.specs.Log.{rolled_back}
 use Rattle.striped_map.specs.declared.view.View.{View}
 use Rattle.striped_map.specs.declared.seat.MapSeat.{MapSeat}
 use Rattle.striped_map.specs.Rule.{Holds, IsShardOf}
 use Rattle.striped_map.specs.Seats.{HoldsAll, LeavesOthers, shard_in}
-use Rattle.striped_map.specs.Steps.{Extends, GainsStripe, lost, rolled_back}
+use Rattle.striped_map.specs.Steps.{Extends, GainsStripe, lost}
 use Rattle.striped_map.specs.Handling.{under}
 use Rattle.striped_map.specs.Sound.{HeldShard, held_shards, stripes_in, with_shard, owed_on, at_place, of_job, Change, Spot, AreHeld, AreLogged}
 use Rattle.striped_map.proofs.AdditionLemmas.{asks_none, own-append, own-none}

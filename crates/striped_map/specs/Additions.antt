@@ -2,12 +2,12 @@
 use Rattle.std.specs.Prelude.{ℕ, Option, List, [], ◌∷◌, None, Some, take, drop, length, slice_index, ◌-◌}
 use Rattle.txn_words.specs.declared.entry.Entry.{Entry}
 use Rattle.txn_words.specs.declared.entry.Entry.TheVariants.{Asked, Did, Saved, Leave, Returned, Busy, Aborted}
-use Rattle.txn_trace.specs.Log.{log_of}
+use Rattle.txn_trace.specs.Log.{log_of, rolled_back}
 use Rattle.txn_trace.specs.Now.{now}
 use Rattle.striped_map.specs.declared.view.View.{View}
 use Rattle.striped_map.specs.declared.addition.Addition.{Addition}
 use Rattle.striped_map.specs.declared.addition.Addition.TheVariants.{Note, Save, Back, Abort, Yield}
-use Rattle.striped_map.specs.Steps.{StateAfter, StepEffect, added, counted, at_end, noting, saving, returning, stance_of, rolled_back, undoing}
+use Rattle.striped_map.specs.Steps.{StateAfter, StepEffect, added, counted, at_end, noting, saving, returning, stance_of, undoing}
 
 -- The changes that the caller with this view can take back, the newest first.
 abbrev pub due : View → List (ℕ × Option ℕ)

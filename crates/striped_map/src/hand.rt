@@ -9,6 +9,7 @@ ghost use Rattle.txn_words.specs.declared.stance.Phase.TheVariants.{Closed, Open
 ghost use Rattle.txn_trace.specs.Locks.{stripe_of};
 ghost use Rattle.txn_words.specs.Map.{count_of, key_of};
 ghost use Rattle.txn_words.specs.declared.op.Op.TheVariants.{Get};
+ghost use Rattle.txn_trace.specs.Log.{rolled_back};
 ghost use Rattle.striped_map.specs.Contents.{rows_with};
 ghost use Rattle.txn_words.specs.declared.refusal.Refusal.TheVariants.{NoMemory};
 ghost use Rattle.txn_trace.specs.Now.{now};
@@ -24,7 +25,7 @@ ghost use Rattle.striped_map.specs.declared.keep.Keep.TheVariants.{Entries};
 ghost use Rattle.striped_map.specs.Rule.{Holds, most};
 ghost use Rattle.striped_map.specs.Seats.{HasRoom, IsNext, IsOf, keep_of, known, shard_in, stripes_of};
 ghost use Rattle.striped_map.specs.Sound.{AreHeld, AreLogged, IsIndexed, IsSound, held_shards};
-ghost use Rattle.striped_map.specs.Steps.{AreMade, Gathers, IsAt, SeesIn, counting, renumbered, stance_of, taken_in, told_of, rolled_back, undoing};
+ghost use Rattle.striped_map.specs.Steps.{AreMade, Gathers, IsAt, SeesIn, counting, renumbered, stance_of, taken_in, told_of, undoing};
 
 use crate::addition::Addition;
 use crate::apart::Apart;

@@ -16,7 +16,7 @@ use Rattle.txn_trace.specs.Serial.{serial}
 use Rattle.txn_trace.specs.Replies.{RepliesHoldAt}
 use Rattle.txn_trace.specs.Locks.{LocksHold, is_locked}
 use Rattle.txn_words.specs.Shape.{is_shaped, IsShaped}
-use Rattle.txn_trace.specs.Legal.{IsLegal, replies_hold, broken, first_bad}
+use Rattle.txn_trace.specs.Legal.{IsLegal, replies_hold, broken, first_bad, first_bad_by}
 use Rattle.txn_trace.proofs.Pushes.{txn_in, of_is}
 use Rattle.txn_trace.proofs.Callers.{IsOwned, ended}
 use Rattle.txn_trace.proofs.Shaped.{callers_of}
@@ -146,7 +146,7 @@ none_bad stripes g [] i legal = refl
 none_bad {holder} stripes g (e ∷ h) i legal =
     let p : IsPrefix (g ++ e ∷ []) (g ++ e ∷ h) = (h, append_assoc g (e ∷ []) h) in
     let good = breaks_none holder stripes g e (legal.shape g e p) (replies_hold_from (g ++ e ∷ []) (legal.replies (g ++ e ∷ []) p)) (legal.locks g e p) in
-    rw (good, first_bad) (none_bad stripes (g ++ e ∷ []) h (i + 1) (subst (IsLegal holder stripes) (sym (append_assoc g (e ∷ []) h)) legal))
+    rw (good, first_bad, first_bad_by) (none_bad stripes (g ++ e ∷ []) h (i + 1) (subst (IsLegal holder stripes) (sym (append_assoc g (e ∷ []) h)) legal))
 
 pub legal_none : {holder : Holder} (stripes : ℕ) → IsLegal holder stripes []
 legal_none stripes = record {

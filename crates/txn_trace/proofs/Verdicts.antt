@@ -7,7 +7,7 @@ use Rattle.txn_words.specs.declared.entry.Entry.{Entry}
 use Rattle.txn_words.specs.declared.holder.Holder.{Holder}
 use Rattle.txn_words.specs.Kinds.{is_commit}
 use Rattle.txn_words.specs.Shape.{how_many}
-use Rattle.txn_trace.specs.Legal.{IsLegal, broken, first_bad, callers_in, running, Legal, Illegal, verdict}
+use Rattle.txn_trace.specs.Legal.{IsLegal, broken, first_bad, first_bad_by, callers_in, running, Legal, Illegal, verdict, verdict_by}
 use Rattle.txn_trace.proofs.BadEntries.{legal_iff, legal_from, legal_none, none_bad}
 
 -- Entry `i` is the first bad entry. The entries before it are a legal history. After this history,
@@ -22,7 +22,7 @@ pub record IsFirstBad (holder : Holder) (stripes : ℕ) (h : List Entry) (i rule
   pub breaks : broken holder stripes front entry ≡ Some rule
 
 legal_after : {holder : Holder} (stripes : ℕ) (g : List Entry) (e : Entry) → IsLegal holder stripes g → broken holder stripes g e ≡ None → IsLegal holder stripes (g ++ e ∷ [])
-legal_after stripes g e legal fine = legal_from stripes g (e ∷ []) 0 legal (rw (fine, first_bad) refl)
+legal_after stripes g e legal fine = legal_from stripes g (e ∷ []) 0 legal (rw (fine, first_bad, first_bad_by) refl)
 
 same_pair : (j r i rule : ℕ) → ◌≡◌ {A = Option (ℕ × ℕ)} (Some (j, r)) (Some (i, rule)) → (j ≡ i) × (r ≡ rule)
 same_pair j r i rule is = let pair : ◌≡◌ {A = ℕ × ℕ} (j, r) (i, rule) = cc (is) in (ap (λ (p : ℕ × ℕ). p.0) pair, ap (λ (p : ℕ × ℕ). p.1) pair)
@@ -55,13 +55,13 @@ found_after : {holder : Holder} (stripes : ℕ) (g front : List Entry) (e : Entr
 found_after {holder} stripes g [] e back j rule legal breaks =
     let here : broken holder stripes g e ≡ Some rule = subst (λ w. broken holder stripes w e ≡ Some rule) (append-nil g) breaks in
     let index : j ≡ j + 0 = omega arith in
-    rw (here, first_bad) (ap (λ i. Some (i, rule)) index)
+    rw (here, first_bad, first_bad_by) (ap (λ i. Some (i, rule)) index)
 found_after {holder} stripes g (f ∷ front) e back j rule legal breaks =
     let fine : broken holder stripes g f ≡ None = fine_head holder stripes g f front j (none_bad stripes g (f ∷ front) j legal) in
     let assoc : (g ++ f ∷ []) ++ front ≡ g ++ f ∷ front = append_assoc g (f ∷ []) front in
     let later = found_after stripes (g ++ f ∷ []) front e back (j + 1) rule (subst (IsLegal holder stripes) (sym assoc) legal) (subst (λ w. broken holder stripes w e ≡ Some rule) (sym assoc) breaks) in
     let index : j + 1 + length front ≡ j + suc (length front) = omega arith in
-    rw (fine, first_bad) (later ∙ ap (λ i. Some (i, rule)) index)
+    rw (fine, first_bad, first_bad_by) (later ∙ ap (λ i. Some (i, rule)) index)
 
 -- The search finds the first bad entry, if there is one.
 pub first_bad-found : {holder : Holder} (stripes : ℕ) (h : List Entry) (i rule : ℕ) → IsFirstBad holder stripes h i rule → first_bad holder stripes [] h 0 ≡ Some (i, rule)
@@ -73,10 +73,10 @@ first_bad-found {holder} stripes h i rule bad =
 -- closed. The verdict on any other history gives its first bad entry and the rule that this entry
 -- breaks.
 pub verdict-legal : {holder : Holder} (stripes : ℕ) (h : List Entry) → IsLegal holder stripes h → verdict holder stripes h ≡ Legal (how_many is_commit h) (length (running (callers_in h) h))
-verdict-legal stripes h legal = rw ((legal_iff stripes h).0 legal, verdict) refl
+verdict-legal stripes h legal = rw ((legal_iff stripes h).0 legal, verdict, verdict_by) refl
 
 pub verdict-illegal : {holder : Holder} (stripes : ℕ) (h : List Entry) (i rule : ℕ) → IsFirstBad holder stripes h i rule → verdict holder stripes h ≡ Illegal i rule
-verdict-illegal stripes h i rule bad = rw (first_bad-found stripes h i rule bad, verdict) refl
+verdict-illegal stripes h i rule bad = rw (first_bad-found stripes h i rule bad, verdict, verdict_by) refl
 
 -- A history is legal, or has a first bad entry.
 pub legal_or_bad : {holder : Holder} (stripes : ℕ) (h : List Entry) → IsLegal holder stripes h ⊎ ((i rule : ℕ) × IsFirstBad holder stripes h i rule)

@@ -36,14 +36,19 @@ broken holder stripes g e =
     if not (is_locked holder stripes g e) then Some 2 else None
 
 -- The number of the first entry of `h` that breaks a rule, and the number of that rule, or None if
--- no entry breaks a rule. The entries of `h` follow the history `g`. The first entry of `h` has the
--- number `i`.
-abbrev pub first_bad : Holder → ℕ → List Entry → List Entry → ℕ → Option (ℕ × ℕ)
-first_bad holder stripes g [] i = None
-first_bad holder stripes g (e ∷ h) i = elim (broken holder stripes g e) [
+-- no entry breaks a rule. `broken` says which rule an entry breaks if it follows a history. The
+-- entries of `h` follow the history `g`. The first entry of `h` has the number `i`.
+abbrev pub first_bad_by : (List Entry → Entry → Option ℕ)
+    → List Entry → List Entry → ℕ → Option (ℕ × ℕ)
+first_bad_by broken g [] i = None
+first_bad_by broken g (e ∷ h) i = elim (broken g e) [
   | Some rule ↦ Some (i, rule)
-  | None ↦ first_bad holder stripes (g ++ e ∷ []) h (i + 1)
+  | None ↦ first_bad_by broken (g ++ e ∷ []) h (i + 1)
 ]
+
+-- The first bad entry by the rules of legal histories.
+abbrev pub first_bad : Holder → ℕ → List Entry → List Entry → ℕ → Option (ℕ × ℕ)
+first_bad holder stripes g h i = first_bad_by (broken holder stripes) g h i
 
 -- Whether a caller in this phase is in a transaction.
 abbrev pub runs : Phase → Bool
@@ -70,9 +75,13 @@ pub data Verdict : Type 0 where
   Legal : ℕ → ℕ → Verdict
   Illegal : ℕ → ℕ → Verdict
 
--- The verdict on a history.
-abbrev pub verdict : Holder → ℕ → List Entry → Verdict
-verdict holder stripes h = elim (first_bad holder stripes [] h 0) [
+-- The verdict on a history, by any rules.
+abbrev pub verdict_by : (List Entry → Entry → Option ℕ) → List Entry → Verdict
+verdict_by broken h = elim (first_bad_by broken [] h 0) [
   | None ↦ Legal (how_many is_commit h) (length (running (callers_in h) h))
   | Some bad ↦ Illegal bad.0 bad.1
 ]
+
+-- The verdict on a history, by the rules of legal histories.
+abbrev pub verdict : Holder → ℕ → List Entry → Verdict
+verdict holder stripes h = verdict_by (broken holder stripes) h

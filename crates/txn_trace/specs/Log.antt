@@ -5,7 +5,7 @@ use Rattle.std.specs.List.{fold}
 use Rattle.txn_words.specs.declared.op.Op.{Op}
 use Rattle.txn_words.specs.declared.entry.Entry.{Entry}
 use Rattle.txn_words.specs.declared.entry.Entry.TheVariants.{Began, Asked, Did, Undone, Committed, Aborted}
-use Rattle.txn_words.specs.Map.{key_of}
+use Rattle.txn_words.specs.Map.{Map, key_of, set_at}
 use Rattle.txn_words.specs.Shape.{changes, own}
 
 -- A log has the operation that waits for its reply, and the standing changes: those that are not
@@ -46,3 +46,8 @@ log_after es = fold log_step no_log es
 -- change.
 abbrev pub log_of : ℕ → List Entry → List (ℕ × Option ℕ)
 log_of c h = (log_after (own c h)).standing
+
+-- The map after these changes are taken back, in the order of the list.
+abbrev pub rolled_back : Map → List (ℕ × Option ℕ) → Map
+rolled_back m [] = m
+rolled_back m (change ∷ older) = rolled_back (set_at m change.0 change.1) older

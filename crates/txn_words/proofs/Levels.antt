@@ -11,6 +11,7 @@ use Rattle.txn_words.specs.declared.entry.Entry.{Entry}
 use Rattle.txn_words.specs.declared.entry.Entry.TheVariants.{Began, Asked, Did, Saved, Leave, Undone, Returned, Committed, Busy, Aborted}
 use Rattle.txn_words.specs.declared.stance.Phase.{Phase}
 use Rattle.txn_words.specs.declared.stance.Phase.TheVariants.{Closed, Opened, Waiting, LeavingTo, LeavingToEnd}
+use Rattle.txn_words.specs.Owed.{owed_in}
 use Rattle.txn_words.specs.Shape.{Stance, closed_stance, changes, row, stance_after}
 
 -- Each level keeps at least as many changes as the levels before it.
@@ -28,6 +29,11 @@ IsLevelIn Opened standing kept = AreWithin standing kept
 IsLevelIn (Waiting op) standing kept = AreWithin standing kept
 IsLevelIn (LeavingTo n) standing kept = (n < length kept) × (get_or kept n 0 ≤ standing)
 IsLevelIn LeavingToEnd standing kept = Unit {0}
+
+-- A caller owes at least one entry for each of its standing changes.
+pub standing_owed : (q : Phase) (standing : ℕ) (kept : List ℕ) → IsLevelIn q standing kept → standing ≤ owed_in standing q
+standing_owed Closed standing kept is = let none : standing ≡ 0 = is.0 in omega arith
+standing_owed _ standing kept is = omega arith
 
 pub record Leveled (s : Stance) : Type 0 where
   pub rising : IsRisingList s.kept

@@ -1,10 +1,10 @@
 use Rattle.std.specs.Prelude.{◌≡◌, ℕ, ◌+◌, ◌-◌, List, Option, take, drop, length}
 use Rattle.txn_words.specs.Map.{Map}
 use Rattle.txn_trace.specs.Now.{now}
+use Rattle.txn_trace.specs.Log.{rolled_back}
 use Rattle.striped_map.specs.Additions.{due}
 use Rattle.striped_map.specs.Seats.{HasRoom, IsOf, known, stripes_of}
 use Rattle.striped_map.specs.Sound.{AreHeld, AreLogged, held_shards}
-use Rattle.striped_map.specs.Steps.{rolled_back}
 use Rattle.striped_map.proofs.hand.take_back.Given as goal
 
 abbrev pub invariant-loop-order : goal.invariant-loop-order

@@ -2,6 +2,7 @@ use Rattle.std.proofs.Common.{◌≡◌, ℕ, ◌^◌, ◌<◌, ◌∙◌, lengt
 use Rattle.txn_words.specs.declared.stance.Phase.TheVariants.{Closed, Opened}
 use Rattle.txn_trace.specs.Now.{now}
 use Rattle.stripe_shard.specs.ShardAt.{ShardAt}
+use Rattle.txn_trace.specs.Log.{rolled_back}
 use Rattle.striped_map.specs.declared.view.View.{View}
 use Rattle.striped_map.specs.Adding.{MayAdd}
 use Rattle.striped_map.specs.Additions.{due, entries_of, left_of}
@@ -12,7 +13,7 @@ use Rattle.striped_map.specs.Handling.{IsEnd}
 use Rattle.striped_map.specs.Records.{told_by}
 use Rattle.striped_map.proofs.Recording.{end_told, end_few}
 use Rattle.striped_map.proofs.Rooms.{end_roomy}
-use Rattle.striped_map.specs.Steps.{IsAt, StateAfter, AddsIn, at_end, rolled_back}
+use Rattle.striped_map.specs.Steps.{IsAt, StateAfter, AddsIn, at_end}
 use Rattle.striped_map.proofs.Ends.{moved_idle}
 use Rattle.striped_map.proofs.Hands.{Job, shards_on}
 use Rattle.striped_map.proofs.Index.{indexed_none}

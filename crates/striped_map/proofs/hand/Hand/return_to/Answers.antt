@@ -2,6 +2,7 @@ use Rattle.std.proofs.Common.{◌≡◌, ℕ, ◌+◌, ◌-◌, List, ◌∷◌,
 use Rattle.std.proofs.lemmas.List.{take-append-drop, length-drop, length-take-le}
 use Rattle.txn_words.specs.declared.entry.Entry.TheVariants.{Leave, Returned}
 use Rattle.txn_trace.specs.Now.{now}
+use Rattle.txn_trace.specs.Log.{rolled_back}
 use Rattle.striped_map.specs.declared.addition.Addition.{Addition}
 use Rattle.striped_map.specs.declared.addition.Addition.TheVariants.{Back}
 use Rattle.striped_map.specs.declared.view.View.{View}
@@ -9,7 +10,7 @@ use Rattle.striped_map.specs.Adding.{MayAdd}
 use Rattle.striped_map.specs.Additions.{due, entries_of, left_of}
 use Rattle.striped_map.specs.Seats.{known}
 use Rattle.striped_map.specs.Sound.{AreHeld, AreLogged, IsSound, held_shards}
-use Rattle.striped_map.specs.Steps.{AddsIn, returning, stance_of, rolled_back, undoing}
+use Rattle.striped_map.specs.Steps.{AddsIn, returning, stance_of, undoing}
 use Rattle.striped_map.proofs.Ends.{moved}
 use Rattle.striped_map.specs.declared.record.Told.TheVariants.{TellBack}
 use Rattle.striped_map.proofs.Recording.{back_told, length-back}
