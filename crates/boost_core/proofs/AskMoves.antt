@@ -2,7 +2,7 @@
 -- changes at most the caller's room, and the entry of any other answer is one that the rules of
 -- shape and locks allow. The same is shown of a `Save` that is refused memory.
 use Rattle.std.proofs.Common.{◌≡◌, ℕ, ◌+◌, ◌-◌, ◌^◌, ◌<◌, ◌==◌, ◌||◌, true, false, cond, [], ◌++◌, length, Option, Some, None, refl, sym, ap, subst, ◌∙◌, arith, slice_get, slice_set, map, nat_eq, not, eq-eqb, ne_eqb, append-nil, inl, inr, ◌⊎◌, option_map, Bool}
-use Rattle.boost_core.proofs.Vocabulary.{option_eq, slice_get_within, Op, Refusal, key_of, takes_node, PendingAt, Step, serial, now, Opened, Waiting, LeavingToEnd, RoomyStance, TableAt, cursor_changes, map_of, nodes_of, false≢true, cases_eq, and_from, or_right, Now, stripe_of, is_locked, holder_of, same_is, is_locked-asked, is_locked-busy, Prepares, IsRefused, entries_of, held_by, Session, Owner, Caller, Helper, holder_by, refusal_of, has_stamp_for, MayLack, times_of, times_in, IsCoveredWith, StaysCovered, World, Tells, LastPlacedFits, state_of, session_changes, gap_if, may_stand, Move, Claim, Lock, Goes, Side, side_of, KeepsPlaced, times_kept, Reach, reach, AsksIn, MeetsIn, NoMemory, StampsUsedUp, Ask, Save, log_of, last_of, or_left, StaleWord, Right, Held, Stale, is_taken, nodes_at, gap_by, helper_gaps_of, KeepsNodes}
+use Rattle.boost_core.proofs.Vocabulary.{may_change, option_eq, slice_get_within, Op, Refusal, key_of, PendingAt, Step, serial, now, Opened, Waiting, LeavingToEnd, RoomyStance, TableAt, cursor_changes, map_of, nodes_of, false≢true, cases_eq, and_from, or_right, Now, stripe_of, is_locked, holder_of, same_is, is_locked-asked, is_locked-busy, Prepares, IsRefused, entries_of, held_by, Session, Owner, Caller, Helper, holder_by, refusal_of, has_stamp_for, MayLack, times_of, times_in, IsCoveredWith, StaysCovered, World, Tells, LastPlacedFits, state_of, session_changes, gap_if, may_stand, Move, Claim, Lock, Goes, Side, side_of, KeepsPlaced, times_kept, Reach, reach, AsksIn, MeetsIn, NoMemory, StampsUsedUp, Ask, Save, log_of, last_of, or_left, StaleWord, Right, Held, Stale, is_taken, nodes_at, gap_by, helper_gaps_of, KeepsNodes}
 use Rattle.boost_core.proofs.Numbers.{no_more}
 use Rattle.boost_core.proofs.Moves.{changes_same, gaps_same, lacks, none_dropped, state_is}
 use Rattle.boost_core.proofs.OneCaller.{Stays, world_after, stance_as, set_cases}
@@ -97,7 +97,7 @@ module _ (w : World) (tells : Tells w) (c : ℕ) (x : Session) (at : slice_get w
     spares_before : (t' : TableAt) (pending : PendingAt) → Prepares w.table t' op pending → (others : ℕ → ℕ → ℕ) → IsCoveredWith others (times_kept (side_of x)) w.table
         → IsCoveredWith (λ place stamp. others place stamp + times_in x.log.jobs place stamp) (times_of pending.spare) t'
     spares_before t' pending prepares others covered =
-        (given_for w.table t' (takes_node op) pending.spare prepares.given).covered (λ p s. others p s + times_in x.log.jobs p s)
+        (given_for w.table t' (may_change op) pending.spare prepares.given).covered (λ p s. others p s + times_in x.log.jobs p s)
         (λ p s. omega (arith, rw nothing at (covered p s)))
 
     -- The outcome of the step `Ask` if the stripe is free or the caller holds it already: the
@@ -128,7 +128,7 @@ module _ (w : World) (tells : Tells w) (c : ℕ) (x : Session) (at : slice_get w
           (none_dropped w.sessions c x at no_cursor_there) (
             none,
             and_from (has_stamp_for (state_of w) op) (may_stand (state_of w) (entry.Asked c op))
-                (given_for w.table new.table (takes_node op) asks.pending.spare asks.prepares.given).stamped locked,
+                (given_for w.table new.table (may_change op) asks.pending.spare asks.prepares.given).stamped locked,
           )
           asks.prepares.nodes.linked
           (record {
@@ -142,7 +142,7 @@ module _ (w : World) (tells : Tells w) (c : ℕ) (x : Session) (at : slice_get w
             mine = refl;
             saved = λ is. absurd (false≢true is);
             kept = (tells.its_stance c x at).agrees.kept;
-            waits = (asks.prepares.op_is, asks.room, (given_for w.table new.table (takes_node op) asks.pending.spare asks.prepares.given).has);
+            waits = (asks.prepares.op_is, asks.room, (given_for w.table new.table (may_change op) asks.pending.spare asks.prepares.given).has);
             due = (tells.its_stance c x at).due;
             content = ap map_of asks.prepares.nodes.regular ∙ tells.content;
             apart = λ d other k held. refl;
@@ -167,7 +167,7 @@ module _ (w : World) (tells : Tells w) (c : ℕ) (x : Session) (at : slice_get w
           (same_is (holder_of w.limits.stripes stripe w.history) (Some holder) (sym (tells.holders stripe within) ∙ meets.refuses.held)))
 
       pub busy_stamped : has_stamp_for (state_of w) op ≡ true
-      busy_stamped = (given_for w.table meets.between (takes_node op) meets.pending.spare meets.prepares.given).stamped
+      busy_stamped = (given_for w.table meets.between (may_change op) meets.pending.spare meets.prepares.given).stamped
 
       busy_kept : KeepsNodes w.table new.table
       busy_kept = nodes_then w.table meets.between new.table meets.prepares.nodes meets.back.nodes

@@ -1,10 +1,10 @@
 -- The outcome of each step of a caller.
 use Rattle.std.proofs.Common.{◌≡◌, ℕ, ◌-◌, ◌^◌, ◌<◌, ◌≤◌, Bool, true, false, List, Some, None, is_some, refl, sym, ap, subst, ◌∙◌, arith, slice_get, slice_set, map, inr, leb-false}
-use Rattle.boost_core.proofs.Vocabulary.{false≢true, slice_get_within, slice_get-map, Step, Answer, key_of, Op, stripe_of, Counts, Session, Caller, caller_changes, refusal_of, owner_of, Claim, Lock, Right, Held, Stale, IsClaim, times_in, World, Tells, state_of, session_changes, all_times, side_of, HasEffect, ActsIn, Saves, IsAsked, AsksBy, unless_busy, KeepsPlaced, MayTakeStep, Reach, reach, spare_if, times_kept, NoMemory}
+use Rattle.boost_core.proofs.Vocabulary.{false≢true, slice_get_within, slice_get-map, CallerStep, step_by, claim_in, Answer, key_of, Op, stripe_of, Counts, Session, caller_changes, refusal_of, Claim, Lock, Right, Held, Stale, IsClaim, times_in, World, Tells, state_of, session_changes, all_times, side_of, HasEffect, ActsIn, Saves, IsAsked, AsksBy, unless_busy, KeepsPlaced, MayTakeStep, Reach, reach, spare_if, times_kept, NoMemory}
 use Rattle.boost_core.proofs.Outcomes.{Called, CalledBy}
 use Rattle.boost_core.proofs.Spares.{owns_if}
 use Rattle.boost_core.proofs.OneCaller.{one_of_sum}
-use Rattle.boost_core.proofs.SideRefusals.{caller_in, free, stance_free, cursor_free, set_here, noted_some}
+use Rattle.boost_core.proofs.SideRefusals.{owner_by, free, stance_free, cursor_free, set_here, noted_some}
 use Rattle.boost_core.proofs.BoundaryMoves.{begun, saved, left, committed, withdrawn, returned, ended}
 use Rattle.boost_core.proofs.AskMoves.{asked_called, busy_called, ask_refused, save_refused, stale_called, held_called, word_stale_called}
 use Rattle.boost_core.proofs.WorkMoves.{did_called, undone_called, sought_called, again_called}
@@ -55,38 +55,23 @@ module _ (w : World) (tells : Tells w) (x : Session) (new : Reach) (keeps : Keep
   saved_here c at none (answers.Refused NoMemory) does = save_refused w tells c x at none new.session does
   saved_here c at none _ does = absurd does
 
-  -- The outcome of each step with the claim `Lock`.
-  locked : (step : Step) → slice_get w.sessions (caller_in (owner_of step)) ≡ Some x → refusal_of (state_of w) step ≡ None
-      → 0 < w.limits.stripes → IsClaim Lock (state_of w) step → (answer : Answer) → HasEffect Lock w.limits.stripes w.counts step old answer new
-      → Called w (caller_in (owner_of step)) x step answer new.session new.table new.locks
-  locked (steps.Begin c) at none some claims (answers.Began n) does = rw does.1 (begun w tells c x at none n does.0)
-  locked (steps.Ask c op) at none some claims answer does = asked c op at none (grind arith) (no_words w.words claims) answer does
-  locked (steps.Seek c) at none some claims answers.Placed does = rw does.1 (sought_called w tells c x at none new.session new.table does.0 keeps)
-  locked (steps.Act c) at none some claims answer does = acted c at none answer does
-  locked (steps.Save c) at none some claims answer does = rw does.1 (saved_here c at none answer does.0)
-  locked (steps.Back c n) at none some claims answers.Leaving does = rw does (left w tells c x at n none)
-  locked (steps.Commit c) at none some claims (answers.Committed p) does = committed w tells c x at none p new.session new.table new.locks does.0 does.1 does.2
-  locked (steps.Abort c) at none some claims answers.Leaving does = rw does.1 (withdrawn w tells c x at none new.session new.table does.0)
-  locked _ at none some claims _ does = absurd does
-
-  claimed : (claim : Claim) (step : Step) → slice_get w.sessions (caller_in (owner_of step)) ≡ Some x → refusal_of (state_of w) step ≡ None
-      → 0 < w.limits.stripes → IsClaim claim (state_of w) step → (answer : Answer) → HasEffect claim w.limits.stripes w.counts step old answer new
-      → CalledBy claim w (caller_in (owner_of step)) x step answer new.session new.table new.locks
-  claimed Lock step at none some claims answer does = locked step at none some claims answer does
-  claimed claim (steps.Ask c op) at none some claims answer does = asked_by claim c op at none (grind arith) claims answer does
-  claimed _ _ at none some claims answer does = absurd claims
-
-  -- The outcome of a caller's step, whatever the step's claim is.
-  pub called : (claim : Claim) (c : ℕ) (step : Step) → owner_of step ≡ Some (Caller c) → slice_get w.sessions c ≡ Some x → refusal_of (state_of w) step ≡ None → 0 < w.limits.stripes → IsClaim claim (state_of w) step → (answer : Answer)
-      → (stripes : ℕ) → stripes ≡ w.limits.stripes → HasEffect claim stripes w.counts step old answer new → CalledBy claim w c x step answer new.session new.table new.locks
-  called claim c step owner at none some claims answer stripes same does =
-      subst (λ k. CalledBy claim w k x step answer new.session new.table new.locks) (ap caller_in owner)
-      (claimed claim step (subst (λ k. slice_get w.sessions k ≡ Some x) (sym (ap caller_in owner)) at) none some claims answer (rw same at does))
+  -- The outcome of each step of a caller.
+  pub called : (c : ℕ) (step : CallerStep) → slice_get w.sessions c ≡ Some x → refusal_of (state_of w) (step_by c step) ≡ None → 0 < w.limits.stripes → IsClaim (claim_in step) (state_of w) (step_by c step) → (answer : Answer)
+      → HasEffect w.limits.stripes w.counts c step old answer new → CalledBy (claim_in step) w c x (step_by c step) answer new.session new.table new.locks
+  called c CallerStep.Begin at none some claims (answers.Began n) does = rw does.1 (begun w tells c x at none n does.0)
+  called c (CallerStep.Ask op claim) at none some claims answer does = asked_by claim c op at none (grind arith) claims answer does
+  called c CallerStep.Seek at none some claims answers.Placed does = rw does.1 (sought_called w tells c x at none new.session new.table does.0 keeps)
+  called c CallerStep.Act at none some claims answer does = acted c at none answer does
+  called c CallerStep.Save at none some claims answer does = rw does.1 (saved_here c at none answer does.0)
+  called c (CallerStep.Back n) at none some claims answers.Leaving does = rw does (left w tells c x at n none)
+  called c CallerStep.Commit at none some claims (answers.Committed p) does = committed w tells c x at none p new.session new.table new.locks does.0 does.1 does.2
+  called c CallerStep.Abort at none some claims answers.Leaving does = rw does.1 (withdrawn w tells c x at none new.session new.table does.0)
+  called c _ at none some claims _ does = absurd does
 
 -- If nothing refuses a step, its caller's side meets the requirements of the step.
-pub takes : (w : World) → Tells w → (c : ℕ) (x : Session) → slice_get w.sessions c ≡ Some x → (step : Step) → owner_of step ≡ Some (Caller c) → refusal_of (state_of w) step ≡ None
-    → w.limits.callers ≤ 64 → 0 < w.limits.stripes → w.counts.began < 2 ^ 63 → w.counts.committed < 2 ^ 63 → MayTakeStep w.limits.stripes w.counts step (reach x w.table w.locks)
-takes w tells c x at step owner none callers some began done = record {
+pub takes : (w : World) → Tells w → (c : ℕ) (x : Session) → slice_get w.sessions c ≡ Some x → (step : CallerStep) → refusal_of (state_of w) (step_by c step) ≡ None
+    → w.limits.callers ≤ 64 → 0 < w.limits.stripes → w.counts.began < 2 ^ 63 → w.counts.committed < 2 ^ 63 → MayTakeStep w.limits.stripes w.counts c step (reach x w.table w.locks)
+takes w tells c x at step none callers some began done = record {
   goes = record {
     agrees = (tells.its_stance c x at).agrees;
     sought = tells.sought c x at;
@@ -98,12 +83,9 @@ takes w tells c x at step owner none callers some began done = record {
       λ place stamp. omega (arith, most place stamp, tells.spares place stamp),
     );
   };
-  free = (w.limits.half, stance_free w tells c x at step owner none);
-  placed = cursor_free w tells c x at step owner none;
-  owner = (c, owner);
-  caller = λ d is.
-      let same : d ≡ c = cc (is, owner) in
-      omega (arith, same, leb-false w.limits.callers c (free (state_of w) c step owner none).within);
+  free = (w.limits.half, stance_free w tells c x at (step_by c step) (owner_by c step) none);
+  placed = cursor_free w tells c x at (step_by c step) (owner_by c step) none;
+  caller = omega (arith, leb-false w.limits.callers c (free (state_of w) c (step_by c step) (owner_by c step) none).within);
   many = tells.stripes;
   some_stripe = some;
   begins = began;
@@ -114,24 +96,24 @@ takes w tells c x at step owner none callers some began done = record {
     most place stamp = one_of_sum (λ s. times_kept (side_of s) place stamp) w.sessions c x at
 
 -- After a step with the answer `Placed`, the step's caller has a cursor.
-pub placed_cursor : (claim : Claim) (stripes : ℕ) (counts : Counts) (step : Step) (old : Reach) (answer : Answer) (new : Reach) → HasEffect claim stripes counts step old answer new → answer ≡ answers.Placed → is_some new.session.cursor ≡ true
-placed_cursor claim stripes counts step old answer new does is = at step (subst (λ a. HasEffect claim stripes counts step old a new) is does)
+pub placed_cursor : (stripes : ℕ) (counts : Counts) (c : ℕ) (step : CallerStep) (old : Reach) (answer : Answer) (new : Reach) → HasEffect stripes counts c step old answer new → answer ≡ answers.Placed → is_some new.session.cursor ≡ true
+placed_cursor stripes counts c step old answer new does is = at step (subst (λ a. HasEffect stripes counts c step old a new) is does)
   where
-    not_own : (own : Answer) (c : ℕ) (op : Op) → answers.Placed ≡ unless_busy own → IsAsked c (stripe_of stripes (key_of op)) op old own new → ⊥
-    not_own answers.Asked c op is does = cc is
-    not_own (answers.Busy holder) c op is does = cc is
-    not_own (answers.Refused refusal) c op is does = cc is
-    not_own _ c op is does = does
+    not_own : (own : Answer) (op : Op) → answers.Placed ≡ unless_busy own → IsAsked c (stripe_of stripes (key_of op)) op old own new → ⊥
+    not_own answers.Asked op is does = cc is
+    not_own (answers.Busy holder) op is does = cc is
+    not_own (answers.Refused refusal) op is does = cc is
+    not_own _ op is does = does
 
-    never_placed : (claim : Claim) (c : ℕ) (op : Op) → AsksBy claim c (stripe_of stripes (key_of op)) op old answers.Placed new → ⊥
-    never_placed Lock c op does = does
-    never_placed Right c op does = not_own does.0 c op does.1 does.2
-    never_placed _ c op does = cc (does.0)
+    never_placed : (claim : Claim) (op : Op) → AsksBy claim c (stripe_of stripes (key_of op)) op old answers.Placed new → ⊥
+    never_placed Lock op does = does
+    never_placed Right op does = not_own does.0 op does.1 does.2
+    never_placed _ op does = cc (does.0)
 
-    at : (step : Step) → HasEffect claim stripes counts step old answers.Placed new → is_some new.session.cursor ≡ true
-    at (steps.Seek c) does = ap (λ (s : Session). is_some s.cursor) does.0.becomes
-    at (steps.Ask c op) does = absurd (never_placed claim c op does)
-    at (steps.Save c) does = absurd does.0
+    at : (step : CallerStep) → HasEffect stripes counts c step old answers.Placed new → is_some new.session.cursor ≡ true
+    at CallerStep.Seek does = ap (λ (s : Session). is_some s.cursor) does.0.becomes
+    at (CallerStep.Ask op claim) does = absurd (never_placed claim op does)
+    at CallerStep.Save does = absurd does.0
     at _ does = absurd does
 
 -- If a caller's new side has a cursor, the state has a change number for that cursor.

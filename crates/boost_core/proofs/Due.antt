@@ -1,6 +1,6 @@
 -- The jobs of a caller stay due while others work on other keys.
 use Rattle.std.proofs.Common.{◌≡◌, ℕ, ◌==◌, true, false, cond, List, [], ◌∷◌, ◌++◌, Option, Some, None, is_some, refl, sym, ap, subst, ◌∙◌, IsSome, map, reverse, option_to_list, nat_eq, eq-eqb, ne_eqb, append-nil, inl, inr}
-use Rattle.boost_core.proofs.Vocabulary.{option_eq, AllByRecursion, cases_Bool, cases_eq, reverse-append, SpareAt, Op, Put, Take, Get, PutIf, MapJob, Relink, Map, get, key_of, reply_of, after, set_at, changes, same_map, get-insert-here, get-remove-here, get-set_at, after_unchanged, get-after_other, changes-reply, takes_node, key_of_job, value_before, IsDue, unput, relink, job_of, change_of, changes_of, AreDue}
+use Rattle.boost_core.proofs.Vocabulary.{may_change, option_eq, AllByRecursion, cases_Bool, cases_eq, reverse-append, SpareAt, Op, Put, Take, Get, PutIf, MapJob, Relink, Map, get, key_of, reply_of, after, set_at, changes, same_map, get-insert-here, get-remove-here, get-set_at, after_unchanged, get-after_other, changes-reply, key_of_job, value_before, IsDue, unput, relink, job_of, change_of, changes_of, AreDue}
 
 -- The property `P` holds for the key of every job.
 abbrev pub AllOf : (ℕ → Type 0) → List MapJob → Type 0
@@ -62,7 +62,7 @@ put_if_noted : (m : Map) (k : ℕ) (expected : Option ℕ) (v : ℕ) (spare : Op
 put_if_noted m k expected v spare made None is = record { change = rw is refl; is_change = made; due = put_if_due m k expected v made }
 put_if_noted m k expected v spare made (Some old) is = record { change = rw is refl; is_change = made; due = put_if_due m k expected v made }
 
-pub noted : (m : Map) (op : Op) (spare : Option SpareAt) → is_some spare ≡ takes_node op → NotedIf m op spare (job_of m op spare)
+pub noted : (m : Map) (op : Op) (spare : Option SpareAt) → is_some spare ≡ may_change op → NotedIf m op spare (job_of m op spare)
 noted m (Put k v) spare there = put_noted m k v spare (get m k) refl
 noted m (Take k) spare there = take_noted m k spare (get m k) refl there
 noted m (Get k) spare there = refl

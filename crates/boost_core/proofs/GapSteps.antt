@@ -1,8 +1,8 @@
 -- Shows that each step affects the cursors as `Cursors` says, because it sets no cursor but its
 -- owner's, and a cursor whose nodes stay neighbours still fits.
 use Rattle.std.proofs.Common.{◌≡◌, ◌≢◌, ℕ, inl, inr, List, length, set, Option, Some, is_some, sym, ap, subst, ◌∙◌, arith, map, slice_get, slice_set, length-set, get_or-set_other, None, Result, Ok, Err, refl, slice_index_or}
-use Rattle.boost_core.proofs.Vocabulary.{cases_lt, regular_at, Op, key_of, stripe_of, Refusal, Step, Answer, nodes_of, IsSound, slice_get_within, slice_get_past, slice_get-get_or, Session, State, Gap, Caller, Helper, gap_in, gap_for, owner_of, Claim, Lock, Right, AreNeighbours, Cursors, Fits, KeepsGaps, StandsAt, mover_of, next_key, Side, Reach, reach, HasEffect, ActsIn, SeeksIn, IsAsked, AsksBy, World, Tells, state_of, nodes_at, gap_by, gap_if, NoMemory, dummy_at, InitSeek, InitLink, SweepOutcome, dummy_node, Sweeps, found_fits, found_placed, TableHelper, Idle, Seeking, Holding, SeekChanges, LinkChanges, StoreChanges, link_answer_of, seek_answer, TableAt, KeepsList, cursor_in, helper_cursor, size_of, stored_of, helps_of, Serves, StampsUsedUp}
-use Rattle.boost_core.proofs.SideRefusals.{set_here}
+use Rattle.boost_core.proofs.Vocabulary.{cases_lt, regular_at, Op, key_of, stripe_of, Refusal, Step, CallerStep, HelperStep, step_by, step_from, Answer, nodes_of, IsSound, slice_get_within, slice_get_past, slice_get-get_or, Session, State, Gap, Caller, Helper, gap_in, gap_for, Claim, Lock, Right, AreNeighbours, Cursors, Fits, KeepsGaps, StandsAt, mover_of, next_key, Side, Reach, reach, HasEffect, ActsIn, SeeksIn, IsAsked, AsksBy, World, Tells, state_of, nodes_at, gap_by, gap_if, NoMemory, dummy_at, InitSeek, InitLink, SweepOutcome, dummy_node, Sweeps, found_fits, found_placed, TableHelper, Idle, Seeking, Holding, SeekChanges, LinkChanges, StoreChanges, link_answer_of, seek_answer, TableAt, KeepsList, cursor_in, helper_cursor, size_of, stored_of, helps_of, Serves, StampsUsedUp}
+use Rattle.boost_core.proofs.SideRefusals.{owner_by, set_here}
 use Rattle.boost_core.proofs.Moves.{gaps_same}
 use Rattle.boost_core.proofs.NodeSteps.{next_is}
 use Rattle.boost_core.proofs.GapLists.{Stay, stay_same, stay_swept, stay_sought}
@@ -53,36 +53,34 @@ module _ (w : World) (tells : Tells w) (c : ℕ) (x : Session) (at : slice_get w
       own _ is = absurd is
   asked_stays _ d stripe op refusal is = (ap (λ (r : Reach). r.session.cursor) is.1, ap (λ (r : Reach). nodes_of r.table) is.1)
 
-  stays : (claim : Claim) (step : Step) (refusal : Refusal) (stripes : ℕ) → HasEffect claim stripes w.counts step old (answers.Refused refusal) new → (y.cursor ≡ x.cursor) × (nodes_of w'.table ≡ nodes_of w.table)
-  stays claim (steps.Ask d op) refusal stripes is = asked_stays claim d (stripe_of stripes (key_of op)) op refusal is
-  stays claim (steps.Save d) NoMemory stripes is = (ap (λ (s : Side). s.cursor) is.0, ap (λ (r : Reach). nodes_of r.table) is.1)
-  stays claim (steps.Save d) _ stripes is = absurd is.0
-  stays claim (steps.Act d) refusal stripes is = absurd is
-  stays claim _ refusal stripes is = absurd is
+  stays : (step : CallerStep) (refusal : Refusal) (stripes : ℕ) → HasEffect stripes w.counts c step old (answers.Refused refusal) new → (y.cursor ≡ x.cursor) × (nodes_of w'.table ≡ nodes_of w.table)
+  stays (CallerStep.Ask op claim) refusal stripes is = asked_stays claim c (stripe_of stripes (key_of op)) op refusal is
+  stays CallerStep.Save NoMemory stripes is = (ap (λ (s : Side). s.cursor) is.0, ap (λ (r : Reach). nodes_of r.table) is.1)
+  stays CallerStep.Save _ stripes is = absurd is.0
+  stays _ refusal stripes is = absurd is
 
   gaps_stay : y.cursor ≡ x.cursor → nodes_of w'.table ≡ nodes_of w.table → map (gap_by w'.table) w'.sessions ≡ map (gap_by w.table) w.sessions
   gaps_stay cursor nodes =
       (λ i. map (λ (s : Session). same_gap w.table w'.table s.cursor nodes i) (sides i))
       ∙ gaps_same w.table w.sessions c x z at (ap (gap_if w.table) (same ∙ cursor))
 
-  other_kept : (claim : Claim) (step : Step) → owner_of step ≡ Some (Caller c) → (stripes : ℕ) (answer : Answer) → HasEffect claim stripes w.counts step old answer new → Stay (nodes_of w.table) (nodes_of w'.table)
-      → (d : ℕ) (gap : Gap) → mover_of step answer ≢ Some (Caller d) → gap_for (state_of w) (Caller d) ≡ Some gap → AreNeighbours (nodes_at w'.table) gap → gap_for (state_of w') (Caller d) ≡ Some gap
-  other_kept claim step owner stripes (answers.Refused refusal) does stay d gap other is near =
-      let both = stays claim step refusal stripes does in
+  other_kept : (step : CallerStep) (stripes : ℕ) (answer : Answer) → HasEffect stripes w.counts c step old answer new → Stay (nodes_of w.table) (nodes_of w'.table)
+      → (d : ℕ) (gap : Gap) → mover_of (step_by c step) answer ≢ Some (Caller d) → gap_for (state_of w) (Caller d) ≡ Some gap → AreNeighbours (nodes_at w'.table) gap → gap_for (state_of w') (Caller d) ≡ Some gap
+  other_kept step stripes (answers.Refused refusal) does stay d gap other is near =
+      let both = stays step refusal stripes does in
       ap (λ gs. gap_in gs d) (gaps_stay both.0 both.1) ∙ is
-  other_kept claim step owner stripes answer does stay d gap other is near =
-      let apart : d ≢ c = λ e. other (owner ∙ ap (λ k. Some (Caller k)) (sym e)) in
+  other_kept step stripes answer does stay d gap other is near =
+      let apart : d ≢ c = λ e. other (owner_by c step ∙ ap (λ k. Some (Caller k)) (sym e)) in
       gap_kept w w' tells.sound.spread sound.rising stay d gap (ap (λ ss. slice_get ss d) sides ∙ set_other w.sessions c d z apart) is near
 
-  keeps : (claim : Claim) (step : Step) → owner_of step ≡ Some (Caller c) → (stripes : ℕ) (answer : Answer) → HasEffect claim stripes w.counts step old answer new → KeepsGaps (state_of w) step answer (state_of w')
-  keeps claim step owner stripes answer does (Caller d) gap other is near =
-      other_kept claim step owner stripes answer does
-      (does_stay old new sound.spread claim stripes w.counts step answer does).nodes d gap other is near
-  keeps claim step owner stripes answer does (Helper h) gap other is near =
-      helper_kept w.table w'.table tells.sound.spread sound.rising
-      (does_stay old new sound.spread claim stripes w.counts step answer does).nodes h gap
-      (cursors_stay w.table w'.table h (does_stay old new sound.spread claim stripes w.counts step answer
-      does).buckets) is near
+  keeps : (step : CallerStep) (stripes : ℕ) (answer : Answer) → HasEffect stripes w.counts c step old answer new → KeepsGaps (state_of w) (step_by c step) answer (state_of w')
+  keeps step stripes answer does (Caller d) gap other is near =
+      other_kept step stripes answer does
+      (does_stay old new sound.spread stripes w.counts c step answer does).nodes d gap other is near
+  keeps step stripes answer does (Helper h) gap other is near =
+      let stay = does_stay old new sound.spread stripes w.counts c step answer does in
+      helper_kept w.table w'.table tells.sound.spread sound.rising stay.nodes h gap
+      (cursors_stay w.table w'.table h stay.buckets) is near
 
   sought : SeeksIn x w.table y w'.table → StandsAt (state_of w') (Caller c) (regular_at (next_key (state_of w) c))
   sought is = rw (next_is w tells c x at is.key is.target)
@@ -96,29 +94,21 @@ module _ (w : World) (tells : Tells w) (c : ℕ) (x : Session) (at : slice_get w
   acted answers.Aborted is = tt
   acted _ is = absurd is
 
-  fits : (claim : Claim) (step : Step) → owner_of step ≡ Some (Caller c) → (stripes : ℕ) (answer : Answer) → HasEffect claim stripes w.counts step old answer new → Fits (state_of w) step answer (state_of w')
-  fits claim (steps.Seek d) owner stripes answers.Placed is = let own : d ≡ c = cc owner in rw own (sought is.0)
-  fits claim (steps.Seek d) owner stripes _ is = absurd is
-  fits claim (steps.Act d) owner stripes answer is = let own : d ≡ c = cc owner in rw own (acted answer (rw own at is))
-  fits claim (steps.Begin d) owner stripes (answers.Began t) is = tt
-  fits claim (steps.Ask d op) owner stripes answers.Asked is = tt
-  fits claim (steps.Save d) owner stripes (answers.Saved n) is = tt
-  fits claim (steps.Back d n) owner stripes answers.Leaving is = tt
-  fits claim (steps.Commit d) owner stripes (answers.Committed p) is = tt
-  fits claim (steps.Abort d) owner stripes answers.Leaving is = tt
-  fits claim steps.Sweep owner stripes answer is = absurd is
-  fits claim (steps.InitSeek h b) owner stripes answer is = absurd is
-  fits claim (steps.InitLink h) owner stripes answer is = absurd is
-  fits claim (steps.InitStore h) owner stripes answer is = absurd is
-  fits claim (steps.Double seen) owner stripes answer is = absurd is
-  fits claim _ owner stripes _ is = tt
+  fits : (step : CallerStep) (stripes : ℕ) (answer : Answer) → HasEffect stripes w.counts c step old answer new → Fits (state_of w) (step_by c step) answer (state_of w')
+  fits CallerStep.Seek stripes answers.Placed is = sought is.0
+  fits CallerStep.Seek stripes _ is = absurd is
+  fits CallerStep.Act stripes answer is = acted answer is
+  fits CallerStep.Begin stripes (answers.Began t) is = tt
+  fits (CallerStep.Ask op claim) stripes answers.Asked is = tt
+  fits CallerStep.Save stripes (answers.Saved n) is = tt
+  fits (CallerStep.Back n) stripes answers.Leaving is = tt
+  fits CallerStep.Commit stripes (answers.Committed p) is = tt
+  fits CallerStep.Abort stripes answers.Leaving is = tt
+  fits _ stripes _ is = tt
 
   -- Each step of a caller affects the cursors as `Cursors` says.
-  pub does_cursors : (claim : Claim) (step : Step) → owner_of step ≡ Some (Caller c) → (stripes : ℕ) (answer : Answer) → HasEffect claim stripes w.counts step old answer new → Cursors (state_of w) step answer (state_of w')
-  does_cursors claim step owner stripes answer is = record {
-    fits = fits claim step owner stripes answer is;
-    keeps = keeps claim step owner stripes answer is;
-  }
+  pub does_cursors : (step : CallerStep) (stripes : ℕ) (answer : Answer) → HasEffect stripes w.counts c step old answer new → Cursors (state_of w) (step_by c step) answer (state_of w')
+  does_cursors step stripes answer is = record { fits = fits step stripes answer is; keeps = keeps step stripes answer is }
 
 module _ (t t' : TableAt) (sound : IsSound t'.list) where
   kept : KeepsList t t' → Stay (nodes_of t) (nodes_of t')
@@ -141,13 +131,12 @@ module _ (t t' : TableAt) (sound : IsSound t'.list) where
   linked_dummy h (Ok links.Present) changes = kept changes.1
   linked_dummy h (Err refusal) changes = kept (ap (λ u. u.list) changes)
 
-  serves_stay : (step : Step) (answer : Answer) → Serves step t answer t' → Stay (nodes_of t) (nodes_of t')
-  serves_stay steps.Sweep answer is = swept is.outcome is.sweeps
-  serves_stay (steps.InitSeek h b) answer is = sought_bucket h b is.outcome is.changes
-  serves_stay (steps.InitLink h) answer is = linked_dummy h is.outcome is.changes
-  serves_stay (steps.InitStore h) answer is = kept is.list
-  serves_stay (steps.Double seen) answer is = kept is.list
-  serves_stay _ answer is = absurd is
+  serves_stay : (step : HelperStep) (answer : Answer) → Serves step t answer t' → Stay (nodes_of t) (nodes_of t')
+  serves_stay HelperStep.Sweep answer is = swept is.outcome is.sweeps
+  serves_stay (HelperStep.InitSeek h b) answer is = sought_bucket h b is.outcome is.changes
+  serves_stay (HelperStep.InitLink h) answer is = linked_dummy h is.outcome is.changes
+  serves_stay (HelperStep.InitStore h) answer is = kept is.list
+  serves_stay (HelperStep.Double seen) answer is = kept is.list
 
 -- A step leaves a helper's cursor unchanged if the helper does not take the step.
 module _ (t t' : TableAt) (h : ℕ) where
@@ -171,14 +160,13 @@ module _ (t t' : TableAt) (h : ℕ) where
   stored_cursor k (Ok done) changes other = moved k Idle (ap (λ d. d.helpers) changes.now) other
   stored_cursor k (Err refusal) changes other = ap (λ u. helper_cursor u h) changes
 
-  serves_cursor : (step : Step) (answer : Answer) → Serves step t answer t' → mover_of step answer ≢ Some (Helper h) → helper_cursor t' h ≡ helper_cursor t h
-  serves_cursor steps.Sweep answer is other = cursors_stay t t' h is.keeps.buckets.all
-  serves_cursor (steps.InitSeek k b) answer is other = sought_cursor k b is.outcome is.changes (subst (λ a. mover_of (steps.InitSeek k b) a ≢ Some (Helper h)) is.answer_is other)
-  serves_cursor (steps.InitLink k) answer is other = linked_cursor k is.outcome is.changes (subst (λ a. mover_of (steps.InitLink k) a ≢ Some (Helper h)) is.answer_is other)
-  serves_cursor (steps.InitStore k) answer is other = stored_cursor k is.outcome is.changes (subst (λ a. mover_of (steps.InitStore k) a ≢ Some (Helper h)) is.answer_is other)
-  serves_cursor (steps.Double seen) answer is other =
+  serves_cursor : (step : HelperStep) (answer : Answer) → Serves step t answer t' → mover_of (step_from step) answer ≢ Some (Helper h) → helper_cursor t' h ≡ helper_cursor t h
+  serves_cursor HelperStep.Sweep answer is other = cursors_stay t t' h is.keeps.buckets.all
+  serves_cursor (HelperStep.InitSeek k b) answer is other = sought_cursor k b is.outcome is.changes (subst (λ a. mover_of (steps.InitSeek k b) a ≢ Some (Helper h)) is.answer_is other)
+  serves_cursor (HelperStep.InitLink k) answer is other = linked_cursor k is.outcome is.changes (subst (λ a. mover_of (steps.InitLink k) a ≢ Some (Helper h)) is.answer_is other)
+  serves_cursor (HelperStep.InitStore k) answer is other = stored_cursor k is.outcome is.changes (subst (λ a. mover_of (steps.InitStore k) a ≢ Some (Helper h)) is.answer_is other)
+  serves_cursor (HelperStep.Double seen) answer is other =
       ap (λ hs. slice_index_or (map cursor_in hs) h None) (doubled_helpers t t' is.outcome is.changes)
-  serves_cursor _ answer is other = absurd is
 
 module _ (w w' : World) (tells : Tells w) (sound : IsSound w'.table.list) where
   sought_fits : (h b : ℕ) (outcome : Result InitSeek Refusal)
@@ -197,21 +185,20 @@ module _ (w w' : World) (tells : Tells w) (sound : IsSound w'.table.list) where
   linked_fits h (Err StampsUsedUp) says no_memory = helper_gap w.table h (fits_where w.table h (Err StampsUsedUp) (sym (says (λ e. cc (e)))) refl (λ e. cc (e)))
   linked_fits h (Err _) says no_memory = tt
 
-  serves_fits : (step : Step) (answer : Answer) → Serves step w.table answer w'.table → Fits (state_of w) step answer (state_of w')
-  serves_fits steps.Sweep answers.Swept is = tt
-  serves_fits steps.Sweep _ is = tt
-  serves_fits (steps.InitSeek h b) answer is = subst (λ a. Fits (state_of w) (steps.InitSeek h b) a (state_of w')) (sym is.answer_is) (sought_fits h b is.outcome is.says is.changes)
-  serves_fits (steps.InitLink h) answer is = subst (λ a. Fits (state_of w) (steps.InitLink h) a (state_of w')) (sym is.answer_is) (linked_fits h is.outcome is.says is.no_memory)
-  serves_fits (steps.InitStore h) answers.Stored is = tt
-  serves_fits (steps.InitStore h) _ is = tt
-  serves_fits (steps.Double seen) answers.Light is = tt
-  serves_fits (steps.Double seen) _ is = tt
-  serves_fits _ answer is = absurd is
+  serves_fits : (step : HelperStep) (answer : Answer) → Serves step w.table answer w'.table → Fits (state_of w) (step_from step) answer (state_of w')
+  serves_fits HelperStep.Sweep answers.Swept is = tt
+  serves_fits HelperStep.Sweep _ is = tt
+  serves_fits (HelperStep.InitSeek h b) answer is = subst (λ a. Fits (state_of w) (steps.InitSeek h b) a (state_of w')) (sym is.answer_is) (sought_fits h b is.outcome is.says is.changes)
+  serves_fits (HelperStep.InitLink h) answer is = subst (λ a. Fits (state_of w) (steps.InitLink h) a (state_of w')) (sym is.answer_is) (linked_fits h is.outcome is.says is.no_memory)
+  serves_fits (HelperStep.InitStore h) answers.Stored is = tt
+  serves_fits (HelperStep.InitStore h) _ is = tt
+  serves_fits (HelperStep.Double seen) answers.Light is = tt
+  serves_fits (HelperStep.Double seen) _ is = tt
 
-  serves_keeps : w'.sessions ≡ w.sessions → (step : Step) (answer : Answer) → Serves step w.table answer w'.table → KeepsGaps (state_of w) step answer (state_of w')
+  serves_keeps : w'.sessions ≡ w.sessions → (step : HelperStep) (answer : Answer) → Serves step w.table answer w'.table → KeepsGaps (state_of w) (step_from step) answer (state_of w')
   serves_keeps sides step answer is (Caller d) gap other had near = gap_kept w w' tells.sound.spread sound.rising (serves_stay w.table w'.table sound step answer is) d gap (ap (λ ss. slice_get ss d) sides) had near
   serves_keeps sides step answer is (Helper h) gap other had near =
       helper_kept w.table w'.table tells.sound.spread sound.rising (serves_stay w.table w'.table sound step answer is) h gap (serves_cursor w.table w'.table h step answer is other) had near
 
-  pub serves_cursors : w'.sessions ≡ w.sessions → (step : Step) (answer : Answer) → Serves step w.table answer w'.table → Cursors (state_of w) step answer (state_of w')
+  pub serves_cursors : w'.sessions ≡ w.sessions → (step : HelperStep) (answer : Answer) → Serves step w.table answer w'.table → Cursors (state_of w) (step_from step) answer (state_of w')
   serves_cursors sides step answer is = record { fits = serves_fits step answer is; keeps = serves_keeps sides step answer is }

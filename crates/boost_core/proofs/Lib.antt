@@ -4,7 +4,6 @@ pub mod Due
 pub mod OneCaller
 pub mod SideRefusals
 pub mod Sides
-pub mod Events
 pub mod Moves
 pub mod Numbers
 pub mod Runs

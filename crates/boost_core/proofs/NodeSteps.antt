@@ -1,12 +1,12 @@
 -- Shows what each step does to the nodes, the change number and the last stamp, because it does to
 -- the machine's list what its call of the table does to the table's list.
 use Rattle.std.proofs.Common.{arith, ◌≡◌, ◌⊎◌, ℕ, ◌-◌, ◌%◌, ◌≤◌, Bool, true, false, List, [], ◌∷◌, ◌++◌, length, Option, Some, None, is_some, inl, inr, refl, sym, ap, subst, ◌∙◌, reverse, slice_get, unwrap_or, nat_lt, nat_eq, IsSome, option_map, Result, Ok, Err}
-use Rattle.boost_core.proofs.Vocabulary.{option_eq, false≢true, cases_Bool, slice_get-map, unwrap_or-slice_get, regular_at, Op, Put, Take, Get, PutIf, Refusal, Step, Answer, Phase, Waiting, LeavingTo, LeavingToEnd, Map, get, key_of, now, log_of, stripe_of, Stance, kept_at, newest_above, MapJob, Unput, Restore, Relink, length-map, reverse-append, ancestor_of, NodeAt, changes_after, sought, IsDummyAt, PendingAt, key_of_job, value_before, takes_node, IsDue, TableAt, SpareAt, KeepsNodes, KeepsList, NamesDummies, content, nodes_of, size_of, stored_of, table_changes, last_of, SeeksNear, IsRefused, Session, State, Caller, is_set, stance_in, owner_of, Touches, stamp_after, Writes, Links, Marks, SeeksFrom, SeeksKey, IsNearest, Changes, PutsIf, OpDoes, OpDoesIn, BackDoes, Lists, next_key_in, next_key, newest_key, Reach, reach, HasEffect, ActsIn, DoesIn, TakesBackIn, SeeksIn, IsAsked, AsksBy, unless_busy, Waits, AreDue, key_of_newest, target_in, target_of, changes_of, Claim, Lock, Right, IsClaim, ListsAsk, ListsBy, stamp_by, World, Tells, state_of, node_at, NoMemory, StaleWord, Abort, Act, Ask, Back, Begin, Commit, Save, Seek, dummy_at, InitSeek, InitLink, SweepOutcome, dummy_node, Sweeps, Seeking, SeekChanges, LinkChanges, Help, Nothing, helps_of, help_in, bucket_at, Serves, Sweeping}
+use Rattle.boost_core.proofs.Vocabulary.{may_change, option_eq, false≢true, cases_Bool, slice_get-map, unwrap_or-slice_get, regular_at, Op, Put, Take, Get, PutIf, Refusal, Step, CallerStep, HelperStep, step_by, claim_in, step_from, Answer, Phase, Waiting, LeavingTo, LeavingToEnd, Map, get, key_of, now, log_of, stripe_of, Stance, kept_at, newest_above, MapJob, Unput, Restore, Relink, length-map, reverse-append, ancestor_of, NodeAt, changes_after, sought, IsDummyAt, PendingAt, key_of_job, value_before, IsDue, TableAt, SpareAt, KeepsNodes, KeepsList, NamesDummies, content, nodes_of, size_of, stored_of, table_changes, last_of, SeeksNear, IsRefused, Session, State, is_set, stance_in, Touches, stamp_after, Writes, Links, Marks, SeeksFrom, SeeksKey, IsNearest, Changes, PutsIf, OpDoes, OpDoesIn, BackDoes, Lists, next_key_in, next_key, newest_key, Reach, reach, HasEffect, ActsIn, DoesIn, TakesBackIn, SeeksIn, IsAsked, AsksBy, unless_busy, Waits, AreDue, key_of_newest, target_in, target_of, changes_of, Claim, Lock, Right, ListsAsk, ListsBy, stamp_by, World, Tells, state_of, node_at, NoMemory, StaleWord, Act, Ask, Seek, dummy_at, InitSeek, InitLink, SweepOutcome, dummy_node, Sweeps, Seeking, SeekChanges, LinkChanges, Help, Nothing, helps_of, help_in, bucket_at, Serves, Sweeping}
 use Rattle.boost_core.specs.Nodes.{LeavesNodes}
 use Rattle.boost_core.proofs.Spares.{given_for, nodes_then}
 use Rattle.boost_core.proofs.NodeLists.{seen, inserted, replaced, written_seen, seeks_from, clean_seen, sweeps as swept_nodes}
 use Rattle.boost_core.proofs.Outcomes.{is_stale_word}
-use Rattle.boost_core.proofs.SideRefusals.{caller_in, stance_here}
+use Rattle.boost_core.proofs.SideRefusals.{stance_here}
 use Rattle.boost_core.proofs.Sides.{changes_last, waiting_op, newest_is}
 use Rattle.map_ops.specs.Buckets.{parent_of}
 use Rattle.boost_core.proofs.Tables.{help_is, links_node}
@@ -189,12 +189,12 @@ module _ (w : World) (tells : Tells w) (c : ℕ) (x : Session) (at : slice_get w
         record {
           nodes = rested w w' is.prepares.nodes;
           rises = rises;
-          stamp = (given_for w.table w'.table (takes_node op) is.pending.spare is.prepares.given).last;
+          stamp = (given_for w.table w'.table (may_change op) is.pending.spare is.prepares.given).last;
         }
     asked op stripe (answers.Busy holder) is = record {
       nodes = rested w w' (nodes_then w.table is.between w'.table is.prepares.nodes is.back.nodes);
       rises = rises;
-      stamp = is.back.last ∙ (given_for w.table is.between (takes_node op) is.pending.spare is.prepares.given).last;
+      stamp = is.back.last ∙ (given_for w.table is.between (may_change op) is.pending.spare is.prepares.given).last;
     }
     asked op stripe (answers.Refused refusal) is = record { nodes = same w w' (tables is.2); rises = rises; stamp = ap last_of (tables is.2) }
     asked op stripe _ is = absurd is
@@ -227,40 +227,24 @@ module _ (w : World) (tells : Tells w) (c : ℕ) (x : Session) (at : slice_get w
     acted answers.Aborted is = record { nodes = same w w' is.2; rises = rises; stamp = ap last_of is.2 }
     acted _ is = absurd is
 
--- The effect on the list of each step of a caller. The lemma `locked` is about a step whose claim
--- is a lock, and `claimed` is about a step with any claim.
 module _ (w : World) (tells : Tells w) (x : Session) (w' : World) (y : Session) (locks' : List (Option ℕ)) (rises : table_changes w.table ≤ table_changes w'.table) where
-  locked : NamesDummies w.table → (stripes : ℕ) (step : Step) → slice_get w.sessions (caller_in (owner_of step)) ≡ Some x
-      → (answer : Answer) → HasEffect Lock stripes w.counts step (reach x w.table w.locks) answer (reach y w'.table locks')
-      → Lists (state_of w) step answer (state_of w')
-  locked home stripes (Begin c) at (answers.Began n) is = record { nodes = same w w' (tables is.1); rises = rises; stamp = ap last_of (tables is.1) }
-  locked home stripes (Ask c op) at answer is = asked w tells c x at w' y locks' rises op (stripe_of stripes (key_of op)) answer is
-  locked home stripes (Seek c) at answers.Placed is =
-      record { nodes = sought_key w tells c x at w' y home is.0; rises = rises; stamp = is.0.places.keeps.last }
-  locked home stripes (Act c) at answer is = acted w tells c x at w' y locks' rises answer is
-  locked home stripes (Save c) at (answers.Saved n) is = record { nodes = same w w' (tables is.1); rises = rises; stamp = ap last_of (tables is.1) }
-  locked home stripes (Save c) at _ is = record { nodes = same w w' (tables is.1); rises = rises; stamp = ap last_of (tables is.1) }
-  locked home stripes (Back c n) at answers.Leaving is = record { nodes = same w w' (tables is); rises = rises; stamp = ap last_of (tables is) }
-  locked home stripes (Commit c) at (answers.Committed p) is =
-      record { nodes = rested w w' is.1.rests.nodes; rises = rises; stamp = is.1.rests.last }
-  locked home stripes (Abort c) at answers.Leaving is = record { nodes = rested w w' is.0.rests.nodes; rises = rises; stamp = is.0.rests.last }
-  locked home stripes _ at _ is = absurd is
-
-  claimed : NamesDummies w.table → (claim : Claim) (stripes : ℕ) (step : Step) → slice_get w.sessions (caller_in (owner_of step)) ≡ Some x
-      → IsClaim claim (state_of w) step → (answer : Answer)
-      → HasEffect claim stripes w.counts step (reach x w.table w.locks) answer (reach y w'.table locks')
-      → ListsBy claim (state_of w) step answer (state_of w')
-  claimed home Lock stripes step at claims answer is = locked home stripes step at answer is
-  claimed home claim stripes (Ask c op) at claims answer is =
+  -- The effect on the list of each step of a caller.
+  pub does : NamesDummies w.table → (stripes c : ℕ) → slice_get w.sessions c ≡ Some x → (step : CallerStep) → (answer : Answer)
+      → HasEffect stripes w.counts c step (reach x w.table w.locks) answer (reach y w'.table locks')
+      → ListsBy (claim_in step) (state_of w) (step_by c step) answer (state_of w')
+  does home stripes c at CallerStep.Begin (answers.Began n) is = record { nodes = same w w' (tables is.1); rises = rises; stamp = ap last_of (tables is.1) }
+  does home stripes c at (CallerStep.Ask op claim) answer is =
       asked_by w tells c x at w' y locks' rises claim op (stripe_of stripes (key_of op)) answer is
-  claimed home _ stripes _ at claims answer is = absurd claims
-
-  pub does : NamesDummies w.table → (claim : Claim) (stripes c : ℕ) → slice_get w.sessions c ≡ Some x → (step : Step)
-      → owner_of step ≡ Some (Caller c) → IsClaim claim (state_of w) step → (answer : Answer)
-      → HasEffect claim stripes w.counts step (reach x w.table w.locks) answer (reach y w'.table locks')
-      → ListsBy claim (state_of w) step answer (state_of w')
-  does home claim stripes c at step owner claims answer is =
-      claimed home claim stripes step (subst (λ k. slice_get w.sessions k ≡ Some x) (sym (ap caller_in owner)) at) claims answer is
+  does home stripes c at CallerStep.Seek answers.Placed is =
+      record { nodes = sought_key w tells c x at w' y home is.0; rises = rises; stamp = is.0.places.keeps.last }
+  does home stripes c at CallerStep.Act answer is = acted w tells c x at w' y locks' rises answer is
+  does home stripes c at CallerStep.Save (answers.Saved n) is = record { nodes = same w w' (tables is.1); rises = rises; stamp = ap last_of (tables is.1) }
+  does home stripes c at CallerStep.Save _ is = record { nodes = same w w' (tables is.1); rises = rises; stamp = ap last_of (tables is.1) }
+  does home stripes c at (CallerStep.Back n) answers.Leaving is = record { nodes = same w w' (tables is); rises = rises; stamp = ap last_of (tables is) }
+  does home stripes c at CallerStep.Commit (answers.Committed p) is =
+      record { nodes = rested w w' is.1.rests.nodes; rises = rises; stamp = is.1.rests.last }
+  does home stripes c at CallerStep.Abort answers.Leaving is = record { nodes = rested w w' is.0.rests.nodes; rises = rises; stamp = is.0.rests.last }
+  does home stripes c at _ _ is = absurd is
 
 -- A refusal by a test leaves the list unchanged.
 touched : (old new : State) (step : Step) (refusal : Refusal) → LeavesNodes old new → Touches old step (answers.Refused refusal) new
@@ -327,12 +311,11 @@ module _ (w w' : World) (home : NamesDummies w.table) (rises : table_changes w.t
   linked_dummy h (Err refusal) changes = record { nodes = kept w w' (ap (λ t. t.list) changes); rises = rises; stamp = ap last_of changes }
 
   -- Each step of the table or of a helper changes the list as `Lists` says.
-  pub serves : (step : Step) (answer : Answer) → Serves step w.table answer w'.table → Lists (state_of w) step answer (state_of w')
-  serves steps.Sweep answer is = rw is.answer_is (swept answer is is.outcome refl)
-  serves (steps.InitSeek h b) answer is = rw is.answer_is (sought_bucket h b is.outcome is.changes)
-  serves (steps.InitLink h) answer is = rw is.answer_is (linked_dummy h is.outcome is.changes)
-  serves (steps.InitStore h) answers.Stored is = record { nodes = kept w w' is.list; rises = rises; stamp = ap (λ l. l.last) is.list }
-  serves (steps.InitStore h) _ is = record { nodes = kept w w' is.list; rises = rises; stamp = ap (λ l. l.last) is.list }
-  serves (steps.Double seen) answers.AtLimit is = record { nodes = kept w w' is.list; rises = rises; stamp = ap (λ l. l.last) is.list }
-  serves (steps.Double seen) _ is = record { nodes = kept w w' is.list; rises = rises; stamp = ap (λ l. l.last) is.list }
-  serves _ answer is = absurd is
+  pub serves : (step : HelperStep) (answer : Answer) → Serves step w.table answer w'.table → Lists (state_of w) (step_from step) answer (state_of w')
+  serves HelperStep.Sweep answer is = rw is.answer_is (swept answer is is.outcome refl)
+  serves (HelperStep.InitSeek h b) answer is = rw is.answer_is (sought_bucket h b is.outcome is.changes)
+  serves (HelperStep.InitLink h) answer is = rw is.answer_is (linked_dummy h is.outcome is.changes)
+  serves (HelperStep.InitStore h) answers.Stored is = record { nodes = kept w w' is.list; rises = rises; stamp = ap (λ l. l.last) is.list }
+  serves (HelperStep.InitStore h) _ is = record { nodes = kept w w' is.list; rises = rises; stamp = ap (λ l. l.last) is.list }
+  serves (HelperStep.Double seen) answers.AtLimit is = record { nodes = kept w w' is.list; rises = rises; stamp = ap (λ l. l.last) is.list }
+  serves (HelperStep.Double seen) _ is = record { nodes = kept w w' is.list; rises = rises; stamp = ap (λ l. l.last) is.list }

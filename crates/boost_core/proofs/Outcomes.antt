@@ -1,7 +1,7 @@
 -- Shows that a caller's step is a move that keeps the core's invariants, because it adds no entry
 -- (`Stays`), or one that the caller's stance allows and has room for (`Grows`).
 use Rattle.std.proofs.Common.{◌≡◌, ◌⊎◌, inl, inr, ℕ, ◌+◌, ◌-◌, ◌<◌, ◌≤◌, ◌^◌, Bool, true, false, cond, refl, List, [], ◌∷◌, ◌++◌, length, Option, Some, None, sym, ap, subst, ◌∙◌, arith, map, slice_get, slice_set, sum_by, option_to_list, append-nil, option_map, nat_eq, nat_lt}
-use Rattle.boost_core.proofs.Vocabulary.{AllByRecursion, standing_owed, false≢true, slice_get_within, Entry, Step, Answer, Phase, Closed, caller_of, Stance, RoomyStance, row, own, Op, Put, Refusal, IsLevelIn, stance_leveled, TableAt, cursor_changes, table_changes, last_of, linked_of, entries_of, NoMemory, StampsUsedUp, StaleWord, refusal_of, tests_of, owner_of, first_of, owed_in, reserved, Counts, Session, counts_after, placed_then, Move, IsAllowed, State, Claim, Lock, Right, Held, Goes, IsClaim, may_come, reserved_by, Side, owed_of, World, Tells, LastPlacedFits, state_of, session_changes, option_eq, Map, is_began, is_commit, now, holder_of, Waiting, Next, MapJob, PendingAt, holder_by, is_waiting, is_saved, LogAt, kept_at, newest_above, Releases, without_caller, held_by, side_of, target_in, key_of_newest, IsSoughtAt, Waits, changes_of}
+use Rattle.boost_core.proofs.Vocabulary.{AllByRecursion, standing_owed, false≢true, slice_get_within, Entry, Step, Answer, Phase, caller_of, Stance, RoomyStance, row, own, Op, Put, Refusal, IsLevelIn, stance_leveled, TableAt, cursor_changes, table_changes, last_of, linked_of, entries_of, NoMemory, StampsUsedUp, StaleWord, refusal_of, tests_of, owner_of, first_of, owed_in, reserved, Counts, Session, counts_after, placed_then, Move, IsAllowed, State, Claim, Lock, Right, Held, Goes, IsClaim, may_come, reserved_by, Side, owed_of, World, Tells, LastPlacedFits, state_of, session_changes, option_eq, Map, is_began, is_commit, now, holder_of, Waiting, Next, MapJob, PendingAt, holder_by, is_waiting, is_saved, LogAt, kept_at, newest_above, Releases, without_caller, held_by, side_of, target_in, key_of_newest, IsSoughtAt, Waits, changes_of}
 use Rattle.txn_trace.proofs.Room.{reserved_for, reserved_enough, owed_by-row}
 use Rattle.boost_core.specs.Machine.{after}
 use Rattle.boost_core.specs.Adding.{Enters, CanAdd}

@@ -1,6 +1,6 @@
 -- The outcome of each step that no caller owns.
 use Rattle.std.proofs.Common.{◌≡◌, ℕ, ◌*◌, ◌==◌, ◌&&◌, Bool, true, false, cond, Some, None, Result, Ok, Err, refl, sym, ap, ◌∙◌, nat_le, nat_lt, not, lt-ltb, le-leb, length-set, inl, inr, le-ltb, slice_get}
-use Rattle.boost_core.proofs.Vocabulary.{lt-leb, cases_lt, Step, Answer, now, InitSeek, InitLink, Refusal, SweepOutcome, TableAt, Follows, size_of, stored_of, helps_of, count_of, Double, HasParents, KeepsList, linked_of, regular, Doubles, SeekChanges, LinkChanges, StoreChanges, seek_answer, Helper, IsAnswer, placed_then, Move, Serves, Sweeping, Linking, Storing, World, Tells, state_of}
+use Rattle.boost_core.proofs.Vocabulary.{lt-leb, cases_lt, Step, HelperStep, step_from, Answer, now, InitSeek, InitLink, Refusal, SweepOutcome, TableAt, Follows, size_of, stored_of, helps_of, count_of, Double, HasParents, KeepsList, linked_of, regular, Doubles, SeekChanges, LinkChanges, StoreChanges, seek_answer, Helper, IsAnswer, placed_then, Move, Serves, Sweeping, Linking, Storing, World, Tells, state_of}
 use Rattle.boost_core.proofs.Tables.{doubled_becomes, held_becomes, idle_becomes, linked_becomes, seeker_fits, seeker_there, sought_becomes, stored_becomes}
 use Rattle.boost_core.proofs.TableMoves.{served, sweep_tells, swept_move, becomes_tells, becomes_move, seek_refusal, refusal_in_result, seek_ready_move, seek_placed_move, helper_refused, store_refused_move, stored_move}
 use Rattle.boost_core.proofs.LinkAnswers.{link_refused_move, link_again_move, link_present_move, link_linked_move}
@@ -99,11 +99,10 @@ module _ (w : World) (tells : Tells w) (parents : HasParents w.table)
   }
 
   -- After each step that no caller owns, the invariants of the core hold, and the step is a move.
-  pub serves : (step : Step) (answer : Answer) → Serves step w.table answer t' → Served w step answer t'
-  serves steps.Sweep answer is = rw is.answer_is (swept_by answer is is.outcome)
-  serves (steps.InitSeek h b) answer is = rw is.answer_is (sought_by h b is.outcome is.says is.changes is.regular is.linked)
-  serves (steps.InitLink h) answer is = rw is.answer_is (linked_by h answer is is.outcome refl is.changes)
-  serves (steps.InitStore h) answer is = rw is.answer_is (stored_by h answer is is.outcome refl is.changes)
-  serves (steps.Double seen) answer is =
+  pub serves : (step : HelperStep) (answer : Answer) → Serves step w.table answer t' → Served w (step_from step) answer t'
+  serves HelperStep.Sweep answer is = rw is.answer_is (swept_by answer is is.outcome)
+  serves (HelperStep.InitSeek h b) answer is = rw is.answer_is (sought_by h b is.outcome is.says is.changes is.regular is.linked)
+  serves (HelperStep.InitLink h) answer is = rw is.answer_is (linked_by h answer is is.outcome refl is.changes)
+  serves (HelperStep.InitStore h) answer is = rw is.answer_is (stored_by h answer is is.outcome refl is.changes)
+  serves (HelperStep.Double seen) answer is =
       rw is.answer_is (doubled_by seen is.outcome is.changes is.list (doubling seen is.outcome _ _ _ refl refl refl (rw (tells.largest, tells.content) at is.says)))
-  serves _ answer is = absurd is

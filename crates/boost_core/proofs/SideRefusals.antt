@@ -1,7 +1,7 @@
 -- Shows that a caller's side refuses a step exactly if the machine does, because both test the
 -- caller's number, its stance and its cursor, in this order.
 use Rattle.std.proofs.Common.{◌≡◌, ℕ, ◌<◌, Bool, true, false, cond, List, [], ◌∷◌, ◌++◌, length, get_or, Option, Some, None, is_some, refl, sym, ap, ◌∙◌, arith, nat_le, not, map, slice_get, unwrap_or, leb-false, option_map, length-set, slice_set, get_or-set_same}
-use Rattle.boost_core.proofs.Vocabulary.{lt-leb, not-false, false≢true, slice_get-map, slice_get-get_or, Refusal, Step, Phase, Closed, Opened, Waiting, Stance, closed_stance, TableAt, Cursor, cursor_changes, NoSuchCaller, Unplaced, Begin, Act, Back, Commit, Abort, Session, State, Owner, Caller, stance_in, caller_changes, owner_of, is_closed, is_waiting, is_leaving, tests_in, tests_of, first_of, refusal_in, refusal_of, lacks_in, lacks_cursor, IsSoughtAt, World, Tells, state_of, session_changes}
+use Rattle.boost_core.proofs.Vocabulary.{lt-leb, not-false, false≢true, slice_get-map, slice_get-get_or, Refusal, Step, CallerStep, step_by, Phase, Closed, Opened, Waiting, Stance, closed_stance, TableAt, Cursor, cursor_changes, NoSuchCaller, Unplaced, Begin, Act, Back, Commit, Abort, Session, State, Owner, Caller, stance_in, caller_changes, owner_of, is_closed, is_waiting, is_leaving, tests_in, tests_of, first_of, refusal_in, refusal_of, lacks_in, lacks_cursor, IsSoughtAt, World, Tells, state_of, session_changes}
 
 -- The first option if it is a refusal, or else the second option.
 abbrev pub or_else : Option Refusal → Option Refusal → Option Refusal
@@ -28,6 +28,11 @@ or_else_none (Some refusal) other none = absurd (cc (none))
 abbrev pub caller_in : Option Owner → ℕ
 caller_in (Some (Caller c)) = c
 caller_in _ = 0
+
+-- The caller that takes a step owns it.
+pub owner_by : (c : ℕ) (step : CallerStep) → owner_of (step_by c step) ≡ Some (Caller c)
+owner_by c CallerStep.Begin = refl
+owner_by c _ = refl
 
 lacks_is : (state : State) (c : ℕ) (step : Step) → owner_of step ≡ Some (Caller c) → lacks_cursor state step ≡ lacks_in (stance_in state.history c) (is_some (caller_changes state.cursors c)) step
 lacks_is state c (Act d) owner =
@@ -152,19 +157,20 @@ lacking one b value none is = rw (none, is) refl
 
 -- If nothing refuses a step in a state that is equal to the state of `w`, then nothing refuses it
 -- in the state of `w`, and its caller has a session.
-pub free_at : (w : World) (old : State) → Tells w → state_of w ≡ old → (c : ℕ) (step : Step) → owner_of step ≡ Some (Caller c) → (r : Option Refusal) → r ≡ refusal_of old step → r ≡ None → (x : Session) → x ≡ get_or w.sessions c x
-    → (refusal_of (state_of w) step ≡ None) × (slice_get w.sessions c ≡ Some x)
-free_at w old tells view c step owner r says none x is =
-    let nothing = ap (λ (s : State). refusal_of s step) view ∙ sym says ∙ none in
-    (nothing, index_at w.sessions c x (omega (arith, tells.count, leb-false w.limits.callers c (free (state_of w) c step owner nothing).within)) is)
+pub free_at : (w : World) (old : State) → Tells w → state_of w ≡ old → (c : ℕ) (step : CallerStep) (r : Option Refusal) → r ≡ refusal_of old (step_by c step) → r ≡ None → (x : Session) → x ≡ get_or w.sessions c x
+    → (refusal_of (state_of w) (step_by c step) ≡ None) × (slice_get w.sessions c ≡ Some x)
+free_at w old tells view c step r says none x is =
+    let nothing = ap (λ (s : State). refusal_of s (step_by c step)) view ∙ sym says ∙ none in
+    let within = (free (state_of w) c (step_by c step) (owner_by c step) nothing).within in
+    (nothing, index_at w.sessions c x (omega (arith, tells.count, leb-false w.limits.callers c within)) is)
 
 -- Let a state be equal to the state of `w`. In this state, a caller's step is refused in two cases:
 -- the caller's stance refuses it, or a cursor is missing.
-pub refusal_at : (w : World) (old : State) → Tells w → state_of w ≡ old → (c : ℕ) (x : Session) → x ≡ get_or w.sessions c x → (step : Step) → owner_of step ≡ Some (Caller c) → c < w.limits.callers
-    → refusal_of old step ≡ or_else (refusal_in w.limits.half x.stance.stance step) (cond (lacks_in x.stance.stance (is_some x.cursor) step) (Some Unplaced) None)
-refusal_at w old tells view c x is step owner within =
-    ap (λ (s : State). refusal_of s step) (sym view)
-    ∙ refusal_here w tells c x (index_at w.sessions c x (omega (arith, tells.count, within)) is) step owner (le_false w.limits.callers c within)
+pub refusal_at : (w : World) (old : State) → Tells w → state_of w ≡ old → (c : ℕ) (x : Session) → x ≡ get_or w.sessions c x → (step : CallerStep) (whole : Step) → whole ≡ step_by c step → c < w.limits.callers
+    → refusal_of old (step_by c step) ≡ or_else (refusal_in w.limits.half x.stance.stance whole) (cond (lacks_in x.stance.stance (is_some x.cursor) whole) (Some Unplaced) None)
+refusal_at w old tells view c x is step whole by within =
+    rw by (ap (λ (s : State). refusal_of s (step_by c step)) (sym view)
+    ∙ refusal_here w tells c x (index_at w.sessions c x (omega (arith, tells.count, within)) is) (step_by c step) (owner_by c step) (le_false w.limits.callers c within))
 
 pub abort_runs : (half : Bool) (s : Stance) (c : ℕ) → refusal_in half s (Abort c) ≡ None → (is_closed s.phase ≡ false) × (is_leaving s.phase ≡ false)
 abort_runs half s c none =

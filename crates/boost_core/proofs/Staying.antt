@@ -1,6 +1,6 @@
 -- No step of a caller unlinks an unmarked node or touches the buckets or the helpers.
 use Rattle.std.proofs.Common.{◌≡◌, ℕ, Bool, true, false, Option, Some, None, refl, sym, ap, subst, nat_eq}
-use Rattle.boost_core.proofs.Vocabulary.{option_eq, regular_at, IsSpread, Op, Put, Take, Get, PutIf, Step, Answer, MapJob, Unput, Restore, Relink, NodeAt, Listing, TableAt, SpareAt, KeepsNodes, nodes_of, LinksNode, MarksNode, WritesNode, WritesNothing, OpWrites, PutWrites, PutIfWrites, TakeWrites, JobWrites, node_for, Claim, Lock, Right, Session, Reach, Counts, HasEffect, ActsIn, IsAsked, AsksBy, Abort, Act, Ask, Back, Begin, Commit, Save, Seek}
+use Rattle.boost_core.proofs.Vocabulary.{option_eq, regular_at, IsSpread, Op, Put, Take, Get, PutIf, CallerStep, Answer, MapJob, Unput, Restore, Relink, NodeAt, Listing, TableAt, SpareAt, KeepsNodes, nodes_of, LinksNode, MarksNode, WritesNode, WritesNothing, OpWrites, PutWrites, PutIfWrites, TakeWrites, JobWrites, node_for, Claim, Lock, Right, Session, Reach, Counts, HasEffect, ActsIn, IsAsked, AsksBy}
 use Rattle.boost_core.proofs.GapLists.{Stay, stay_same, stay_changed, stay_linked, stay_sought}
 use Rattle.boost_core.proofs.Spares.{nodes_then}
 use Rattle.txn_words.specs.declared.answer.Answer.TheVariants as answers
@@ -78,16 +78,16 @@ module _ (old new : Reach) (spread : IsSpread (nodes_of new.table)) where
   acted c _ is = absurd is
 
   -- Each step of a caller leaves unmarked nodes linked, and buckets and helpers unchanged.
-  pub does_stay : (claim : Claim) (stripes : ℕ) (counts : Counts) (step : Step) (answer : Answer) → HasEffect claim stripes counts step old answer new → Leaves old.table new.table
-  does_stay claim stripes counts (Begin d) (answers.Began n) is = framed old.session is.1
-  does_stay claim stripes counts (Ask d op) answer is = asked_by claim d _ op answer is
-  does_stay claim stripes counts (Seek d) answers.Placed is = record {
+  pub does_stay : (stripes : ℕ) (counts : Counts) (d : ℕ) (step : CallerStep) (answer : Answer) → HasEffect stripes counts d step old answer new → Leaves old.table new.table
+  does_stay stripes counts d CallerStep.Begin (answers.Began n) is = framed old.session is.1
+  does_stay stripes counts d (CallerStep.Ask op claim) answer is = asked_by claim d _ op answer is
+  does_stay stripes counts d CallerStep.Seek answers.Placed is = record {
     nodes = subst (Stay (nodes_of old.table)) (sym is.0.near.nodes) (stay_sought (regular_at is.0.key) (nodes_of old.table) is.0.near.start);
     buckets = is.0.places.keeps.buckets.all;
   }
-  does_stay claim stripes counts (Act d) answer is = acted d answer is
-  does_stay claim stripes counts (Save d) answer is = framed new.session is.1
-  does_stay claim stripes counts (Back d n) answers.Leaving is = framed (record old.session { cursor = None }) is
-  does_stay claim stripes counts (Commit d) (answers.Committed p) is = rested is.1.rests.nodes
-  does_stay claim stripes counts (Abort d) answers.Leaving is = rested is.0.rests.nodes
-  does_stay claim stripes counts _ _ is = absurd is
+  does_stay stripes counts d CallerStep.Act answer is = acted d answer is
+  does_stay stripes counts d CallerStep.Save answer is = framed new.session is.1
+  does_stay stripes counts d (CallerStep.Back n) answers.Leaving is = framed (record old.session { cursor = None }) is
+  does_stay stripes counts d CallerStep.Commit (answers.Committed p) is = rested is.1.rests.nodes
+  does_stay stripes counts d CallerStep.Abort answers.Leaving is = rested is.0.rests.nodes
+  does_stay stripes counts d _ _ is = absurd is

@@ -12,6 +12,7 @@ pub use Rattle.boost_core.specs.Serves.{Linking, Serves, Storing, Sweeping, doub
 pub use Rattle.boost_core.specs.Sessions.{ActsIn, Agrees, AreDue, AsksBy, AsksIn, CanAct, CanArrive, CanSettle, CanUndo, HasEffect, DoesIn, Drops, EndsIn, GoesWith, IsAsked, IsIdle, IsSought, IsSoughtAt, KeepsPlaced, MeetsIn, Rests, ReturnsIn, Saves, SavesIn, SeeksIn, SettlesIn, Side, MayTakeStep, Reach, reach, TakesBackIn, Waits, WithdrawsIn, change_of, changes_of, key_of_newest, level_of, owed_of, side_of, spare_if, target_in, target_of, times_kept, unless_busy}
 pub use Rattle.boost_core.specs.Spares.{IsCovered, IsCoveredWith, StaysCovered, times_in, times_of, times_out}
 pub use Rattle.boost_core.specs.State.{Caller, Dummy, Gap, Help, Helper, Node, Nothing, Owner, SortKey, Sought, State, bucket_at, caller_changes, gap_for, gap_in, help_in, helper_changes, holder_by, is_set, marked_node, plain_node, stance_in, start, with_bucket}
+pub use Rattle.boost_core.specs.Steps.{CallerStep, HelperStep, claim_in, step_by, step_from}
 pub use Rattle.boost_core.specs.Whole.{IsWhole}
 pub use Rattle.boost_core.specs.Words.{Claim, Goes, Held, IsClaim, ListsAsk, ListsBy, Lock, Right, Stale, is_ask, is_taken, may_come, reserved_by, stamp_by}
 pub use Rattle.boost_core.specs.declared.counts.Counts.{Counts}
@@ -35,7 +36,7 @@ pub use Rattle.map_ops.specs.Changes.{GivesBack, GivesFor, GivesSpare, IsRefused
 pub use Rattle.map_ops.specs.Double.{Double}
 pub use Rattle.map_ops.specs.InitLink.{InitLink}
 pub use Rattle.map_ops.specs.InitSeek.{InitSeek}
-pub use Rattle.map_ops.specs.Jobs.{IsDue, PendingAt, job_of, key_of_job, relink, spare_of_job, takes_node, unput, value_before}
+pub use Rattle.map_ops.specs.Jobs.{IsDue, PendingAt, job_of, key_of_job, relink, spare_of_job, unput, value_before}
 pub use Rattle.map_ops.specs.Nodes.{JobWrites, LinksNode, MarksNode, OpWrites, PutIfWrites, PutWrites, TakeWrites, WritesNode, WritesNothing, node_for}
 pub use Rattle.map_ops.specs.SweepOutcome.{SweepOutcome}
 pub use Rattle.map_ops.specs.TableAt.{Cursor, Follows, HasParents, IsNew, IsPlaced, KeepsTable, KeepsBuckets, KeepsList, KeepsNodes, KeepsSpares, NamesDummies, SpareAt, TableAt, content, cursor_changes, cursor_in, cursors_of, help_of, helper_cursor, helps_of, largest_of, last_of, linked_of, map_of, nodes_of, regular, size_of, spare_out, stored_of, table_changes, fits}
@@ -82,7 +83,7 @@ pub use Rattle.txn_words.proofs.Maps.{get-insert-here, get-remove-here, get-set_
 pub use Rattle.txn_words.specs.Entries.{entries_of}
 pub use Rattle.txn_words.specs.Kinds.{caller_of, is_began, is_commit}
 pub use Rattle.txn_words.specs.Map.{Map, after, count_of, get, key_of, reply_of, set_at}
-pub use Rattle.txn_words.specs.Owed.{owed, owed_by, owed_in, reserved}
+pub use Rattle.txn_words.specs.Owed.{may_change, owed, owed_by, owed_in, reserved}
 pub use Rattle.txn_words.specs.Stances.{is_saved}
 pub use Rattle.txn_words.specs.Shape.{RoomyStance, Stance, changes, closed_stance, how_many, own, row, stance_after}
 pub use Rattle.txn_words.specs.Sizes.{Sizes, are_limits, is_bad_key}

@@ -1,7 +1,7 @@
 -- Shows that `Seek` and `Act` are moves that keep the core's invariants, because the table does to
 -- its content what the entry does to the map `now`.
 use Rattle.std.proofs.Common.{◌≡◌, ℕ, ◌+◌, ◌-◌, ◌<◌, true, cond, List, [], ◌∷◌, ◌++◌, length, Option, Some, None, is_some, refl, sym, ap, subst, ◌∙◌, arith, slice_get, slice_set, map, reverse, slice_index, nat_lt, option_to_list, ne_eqb, ltb-true, ◌^◌, false, inl, inr, option_map}
-use Rattle.boost_core.proofs.Vocabulary.{false≢true, reverse-append, stripe_of, holder_of, TableAt, content, table_changes, serial, now, log_of, Phase, Opened, Waiting, LeavingTo, LeavingToEnd, Next, kept_at, MapJob, key_of, reply_of, after, set_at, Map, runs, is_running, changes, Stance, get-after_other, get-set_at, waiting_held, log_held, held_apart, takes_node, key_of_job, value_before, spare_of_job, PendingAt, Session, stance_in, holder_by, refusal_of, has_job, times_of, times_in, StaysCovered, World, Tells, state_of, session_changes, IsReply, side_of, level_of, KeepsPlaced, Waits, spare_if, times_kept, change_of, changes_of, AreDue, DoesIn, TakesBackIn, Act, cases_eq, and_from, slice_get_within, Cursor, cursor_changes, map_of, IsPlaced, Owner, Caller, Helper, has_target, LastPlacedFits, is_just_placed, may_be_stale, target_in, target_of, IsSoughtAt, SeeksIn, Drops, Seek}
+use Rattle.boost_core.proofs.Vocabulary.{may_change, false≢true, reverse-append, stripe_of, holder_of, TableAt, content, table_changes, serial, now, log_of, Phase, Opened, Waiting, LeavingTo, LeavingToEnd, Next, kept_at, MapJob, key_of, reply_of, after, set_at, Map, runs, is_running, changes, Stance, get-after_other, get-set_at, waiting_held, log_held, held_apart, key_of_job, value_before, spare_of_job, PendingAt, Session, stance_in, holder_by, refusal_of, has_job, times_of, times_in, StaysCovered, World, Tells, state_of, session_changes, IsReply, side_of, level_of, KeepsPlaced, Waits, spare_if, times_kept, change_of, changes_of, AreDue, DoesIn, TakesBackIn, Act, cases_eq, and_from, slice_get_within, Cursor, cursor_changes, map_of, IsPlaced, Owner, Caller, Helper, has_target, LastPlacedFits, is_just_placed, may_be_stale, target_in, target_of, IsSoughtAt, SeeksIn, Drops, Seek}
 use Rattle.boost_core.proofs.Numbers.{no_more}
 use Rattle.boost_core.proofs.Moves.{state_is, changes_set, stale_since}
 use Rattle.boost_core.proofs.Outcomes.{Called, entered}
@@ -26,8 +26,8 @@ going_runs (LeavingTo n) is = refl
 going_runs LeavingToEnd is = refl
 going_runs _ is = absurd is
 
-waiting_spare : (q : Phase) (pending : PendingAt) (room : ℕ) → Waits q (Some pending) room → is_some pending.spare ≡ takes_node pending.op
-waiting_spare (Waiting op) pending room is = is.2 ∙ ap takes_node (sym is.0)
+waiting_spare : (q : Phase) (pending : PendingAt) (room : ℕ) → Waits q (Some pending) room → is_some pending.spare ≡ may_change pending.op
+waiting_spare (Waiting op) pending room is = is.2 ∙ ap may_change (sym is.0)
 waiting_spare _ pending room is = absurd is
 
 module _ (w : World) (tells : Tells w) (c : ℕ) (x : Session) (at : slice_get w.sessions c ≡ Some x) where

@@ -7,10 +7,11 @@ pub mod Locks
 pub mod Replies
 pub mod Content
 pub mod Nodes
-pub mod Events
+pub mod Rows
 pub mod Machine
 pub mod Plain
 pub mod Words
+pub mod Steps
 pub mod Begun
 pub mod Counts
 pub mod Serves

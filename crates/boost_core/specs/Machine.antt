@@ -1,33 +1,32 @@
 -- PROMISES each-step-is-a-move-of-the-machine: Happens, Moves
--- The fifth claim, answers: each step makes a move of the machine. `Events` says what each event
--- does. The definitions below say what a step with its answer does: such a step is an event, or it
--- is refused.
+-- The fifth claim, answers: each step makes a move of the machine. The rows of `Rows.antt` say what a
+-- step with an answer does that is not a refusal. The definitions below add the refusals.
 pub use Rattle.boost_core.specs.State.{State, start, start_with_words, holder_by}
-use Rattle.std.specs.Prelude.{◌≡◌, ◌≤◌, ◌≢◌, ℕ, ◌⊎◌, List, [], ◌∷◌, ◌++◌, Option, Some, None, option_map, unwrap_or}
+use Rattle.std.specs.Prelude.{◌≡◌, ◌≤◌, ◌≢◌, ℕ, ◌⊎◌, List, [], ◌∷◌, ◌++◌, Option, Some, None}
 use Rattle.boost_core.specs.Vocabulary.{Step, InitLink, Answer, NoMemory, StampsUsedUp, Sizes}
 use Rattle.txn_words.specs.declared.answer.Answer.TheVariants as answers
 use Rattle.txn_words.specs.Entries.{entries_of}
 use Rattle.boost_core.specs.State.{Gap, Owner, Helper, gap_for}
 use Rattle.boost_core.specs.Refusals.{refusal_of, MayLack, owner_of}
-use Rattle.boost_core.specs.Nodes.{LeavesNodes, AreNeighbours, HasFit}
-use Rattle.boost_core.specs.Events.{MayHappen, TouchesBy, FitsBy, done_by, placed_in, stamp_with, event_of, if_event}
+use Rattle.boost_core.specs.Nodes.{AreNeighbours, HasFit}
+use Rattle.boost_core.specs.Rows.{row_of}
 
 -- Whether a step may have this answer if nothing refuses the step.
 abbrev pub IsAnswer : State → Step → Answer → Type 0
-IsAnswer state step answer = if_event ⊥ (MayHappen state) step answer
+IsAnswer state step answer = (row_of step answer).Allows state
 
 -- The owner of the cursor that was placed last, after a step and its answer. A refusal leaves the
 -- owner unchanged.
 abbrev pub placed_then : Option Owner → Step → Answer → Option Owner
 placed_then before step (answers.Refused refusal) = before
-placed_then before step answer = placed_in (event_of step answer)
+placed_then before step answer = (row_of step answer).placed
 
 -- The state after a step and its answer, except for the nodes and the gaps. `changes` and `stamp`
 -- are the change number and the last stamp after the step. A refusal leaves the state unchanged.
 abbrev pub after : State → Step → Answer → ℕ → ℕ → State
 after state step (answers.Refused refusal) changes stamp = state
 after state step answer changes stamp =
-    let done = unwrap_or (option_map (done_by state changes) (event_of step answer)) state in
+    let done = (row_of step answer).leaves state changes in
     record state {
       history = state.history ++ entries_of step answer;
       size = done.size;
@@ -37,24 +36,22 @@ after state step answer changes stamp =
       stamp = stamp;
       cursors = done.cursors;
       helpers = done.helpers;
-      placed = placed_in (event_of step answer);
+      placed = (row_of step answer).placed;
     }
 
--- The effect of a step and its answer on the nodes and on the change number. If they have no event,
--- nothing changes.
+-- The effect of a step and its answer on the nodes and on the change number.
 abbrev pub Touches : State → Step → Answer → State → Type 0
-Touches old step answer new = if_event (LeavesNodes old new) (λ e. TouchesBy old e new) step answer
+Touches old step answer new = (row_of step answer).Touches old new
 
 abbrev pub stamp_after : ℕ → Step → Answer → ℕ
-stamp_after stamp step answer =
-    unwrap_or (option_map (stamp_with stamp) (event_of step answer)) stamp
+stamp_after stamp step answer = (row_of step answer).stamps stamp
 
 -- Which cursor must fit before a step with its answer, and which one fits after it. If the step
 -- `InitLink` is refused for lack of memory or of stamps, the helper's cursor fits.
 abbrev pub Fits : State → Step → Answer → State → Type 0
 Fits old (InitLink h) (answers.Refused NoMemory) new = HasFit old (Helper h)
 Fits old (InitLink h) (answers.Refused StampsUsedUp) new = HasFit old (Helper h)
-Fits old step answer new = if_event (Unit {0}) (λ e. FitsBy old e new) step answer
+Fits old step answer new = (row_of step answer).Fits old new
 
 -- The effect of a step and its answer on the list: on its nodes, its change number and its last
 -- stamp.

@@ -1,9 +1,8 @@
 -- PROMISES each-step-is-a-move-of-the-machine: refusal_of
 -- The refusals of each step, in the order in which they are tested.
-pub use Rattle.map_ops.specs.Jobs.{takes_node}
 pub use Rattle.txn_words.specs.Stances.{is_closed, is_waiting, is_leaving, has_job, has_target, unready_tests, tests_in, first_of, refusal_in}
 use Rattle.std.specs.Prelude.{ℕ, ◌^◌, ◌-◌, Bool, true, false, not, ◌==◌, ◌&&◌, ◌||◌, nat_le, IsTrue, is_some, List, [], ◌∷◌, ◌++◌, Option, Some, None}
-use Rattle.boost_core.specs.Vocabulary.{Op, Step, Begin, Ask, Seek, Act, Save, Back, Commit, Abort, Sweep, InitSeek, InitLink, InitStore, Double, Refusal, NoSuchCaller, Unplaced, NoSuchBucket, ParentMissing, NoSuchHelper, HelperOutOfOrder, NoMemory, StampsUsedUp, Stance, parent_of, LacksSegment}
+use Rattle.boost_core.specs.Vocabulary.{may_change, Op, Step, Begin, Ask, Seek, Act, Save, Back, Commit, Abort, Sweep, InitSeek, InitLink, InitStore, Double, Refusal, NoSuchCaller, Unplaced, NoSuchBucket, ParentMissing, NoSuchHelper, HelperOutOfOrder, NoMemory, StampsUsedUp, Stance, parent_of, LacksSegment}
 use Rattle.boost_core.specs.State.{State, Owner, Caller, Helper, Help, Sought, Dummy, stance_in, caller_changes, help_in, is_set, bucket_of}
 
 -- The owner of a step: its caller or its helper. `Sweep` and `Double` have no owner.
@@ -70,7 +69,7 @@ abbrev pub has_stamp : State → Bool
 has_stamp state = not (state.stamp == 2 ^ 64 - 2)
 
 abbrev pub has_stamp_for : State → Op → Bool
-has_stamp_for state op = not (takes_node op) || has_stamp state
+has_stamp_for state op = not (may_change op) || has_stamp state
 
 -- Whether the dummy that a helper sought is not linked yet.
 abbrev pub lacks_dummy : State → ℕ → Bool

@@ -1,18 +1,10 @@
 -- The answers to the steps that belong to no caller, and the effects of these steps on the table.
-use Rattle.std.specs.Prelude.{◌≡◌, ◌≢◌, ℕ, ◌-◌, ◌<◌, ◌^◌, ◌↔◌, Bool, true, false, Some, Result, Ok, Err}
-use Rattle.boost_core.specs.Vocabulary.{slice_get, Step, Sweep, InitSeek, InitLink, InitStore, Double, Answer, count_of, Refusal, TableAt, Help, SweepOutcome, KeepsTable, KeepsList, KeepsSpares, IsClean, content, regular, table_changes, size_of, largest_of, stored_of, linked_of, helps_of, Sweeps, SeekChanges, LinkChanges, StoreChanges, LacksSegment, Doubles, seek_answer, link_answer_of, store_answer, double_answer}
+use Rattle.std.specs.Prelude.{◌≡◌, ◌≢◌, ℕ, ◌-◌, ◌<◌, ◌^◌, ◌↔◌, Some, Result, Ok, Err}
+use Rattle.boost_core.specs.Vocabulary.{slice_get, Answer, count_of, Refusal, TableAt, Help, SweepOutcome, KeepsTable, KeepsList, KeepsSpares, IsClean, content, regular, table_changes, size_of, largest_of, stored_of, linked_of, helps_of, Sweeps, SeekChanges, LinkChanges, StoreChanges, LacksSegment, Doubles, seek_answer, link_answer_of, store_answer, double_answer}
+use Rattle.boost_core.specs.Steps.{HelperStep}
 use Rattle.map_ops.specs.Double.{Double as Doubled}
 use Rattle.map_ops.specs.InitSeek.{InitSeek as Sought}
 use Rattle.map_ops.specs.InitLink.{InitLink as Linked}
-
--- Whether a step belongs to no caller.
-abbrev pub is_served : Step → Bool
-is_served Sweep = true
-is_served (InitSeek h b) = true
-is_served (InitLink h) = true
-is_served (InitStore h) = true
-is_served (Double seen) = true
-is_served step = false
 
 -- The answer to the step `Sweep`, given the outcome that the table reports.
 abbrev pub swept : SweepOutcome → Answer
@@ -92,10 +84,9 @@ pub record Doubling (t t' : TableAt) (seen : ℕ) (answer : Answer) : Type 0 whe
   pub list : KeepsList t t'
 
 -- The answer to a step that belongs to no caller, and its effect on the table.
-abbrev pub Serves : Step → TableAt → Answer → TableAt → Type 0
-Serves Sweep t answer t' = Sweeping t t' answer
-Serves (InitSeek h b) t answer t' = Seeking t t' h b answer
-Serves (InitLink h) t answer t' = Linking t t' h answer
-Serves (InitStore h) t answer t' = Storing t t' h answer
-Serves (Double seen) t answer t' = Doubling t t' seen answer
-Serves step t answer t' = ⊥
+abbrev pub Serves : HelperStep → TableAt → Answer → TableAt → Type 0
+Serves HelperStep.Sweep t answer t' = Sweeping t t' answer
+Serves (HelperStep.InitSeek h b) t answer t' = Seeking t t' h b answer
+Serves (HelperStep.InitLink h) t answer t' = Linking t t' h answer
+Serves (HelperStep.InitStore h) t answer t' = Storing t t' h answer
+Serves (HelperStep.Double seen) t answer t' = Doubling t t' seen answer

@@ -1,14 +1,14 @@
 -- A caller's side of the core, and the effects of the caller's steps on its side, on the table and
 -- on the locks.
 use Rattle.std.specs.Prelude.{◌≡◌, ℕ, ◌+◌, ◌<◌, ◌^◌, ◌≤◌, ◌⊎◌, ◌∷◌, is_some, ◌++◌, Bool, true, false, List, [], Option, Some, None, length, map, reverse, take, option_to_list}
-use Rattle.boost_core.specs.Vocabulary.{Op, Step, Begin, Ask, Seek, Act, Save, Back, Commit, Abort, Answer, NoMemory, StaleWord, Map, get, key_of, set_at, owed_in, stripe_of, Phase, Waiting, LeavingTo, LeavingToEnd, Stance, closed_stance, is_leaving, has_job, has_target, refusal_in, Grants, Refuses, Releases, IsSound, MapJob, PendingAt, takes_node, key_of_job, value_before, spare_of_job, IsDue, TableAt, Cursor, SpareAt, KeepsNodes, content, IsPlaced, fits, last_of, Does, OwnsIf, Places, SeeksNear, Prepares, IsRefused, GivesBack, TakesBack}
+use Rattle.boost_core.specs.Vocabulary.{may_change, Op, Answer, NoMemory, StaleWord, Map, get, key_of, set_at, owed_in, stripe_of, Phase, Waiting, LeavingTo, LeavingToEnd, Stance, closed_stance, is_leaving, has_job, has_target, refusal_in, Grants, Refuses, Releases, IsSound, MapJob, PendingAt, key_of_job, value_before, spare_of_job, IsDue, TableAt, Cursor, SpareAt, KeepsNodes, content, IsPlaced, fits, last_of, Does, OwnsIf, Places, SeeksNear, Prepares, IsRefused, GivesBack, TakesBack}
 use Rattle.undo_log.specs.UndoLog.{LogAt, kept_at, newest_above}
 use Rattle.map_ops.specs.Nodes.{OpWrites, JobWrites}
 use Rattle.boost_core.specs.declared.counts.Counts.{Counts}
 use Rattle.boost_core.specs.declared.session.Session.{Session}
-use Rattle.boost_core.specs.State.{Caller}
 use Rattle.boost_core.specs.Words.{Claim, Lock, Right, Held, Stale}
-use Rattle.boost_core.specs.Refusals.{owner_of, lacks_in}
+use Rattle.boost_core.specs.Refusals.{lacks_in}
+use Rattle.boost_core.specs.Steps.{CallerStep, step_by}
 use Rattle.boost_core.specs.Spares.{times_of, times_in, IsCoveredWith, StaysCovered}
 
 -- A caller's side without its room: the stance, the operation that waits, the cursor, and the jobs
@@ -47,7 +47,7 @@ IsIdle s =
 -- for the operation's job, and the operation has a spare exactly if it takes a node.
 abbrev pub Waits : Phase → Option PendingAt → ℕ → Type 0
 Waits (Waiting op) (Some pending) room =
-    (pending.op ≡ op) × (0 < room) × (is_some pending.spare ≡ takes_node op)
+    (pending.op ≡ op) × (0 < room) × (is_some pending.spare ≡ may_change op)
 Waits (Waiting op) None room = ⊥
 Waits phase (Some pending) room = ⊥
 Waits phase None room = Unit {0}
@@ -327,36 +327,37 @@ ActsIn c old Answer.Aborted new =
     × EndsIn c old.session old.locks new.session new.locks × (new.table ≡ old.table)
 ActsIn c old answer new = ⊥
 
--- What must hold before a session takes a caller's step: no test refuses the step, the caller's
--- side agrees with the table, and the numbers are within their bounds.
-pub record MayTakeStep (stripes : ℕ) (counts : Counts) (step : Step) (old : Reach) : Type 0 where
+-- What must hold before a session takes a step of caller `c`: no test refuses the step, the
+-- caller's side agrees with the table, and the numbers are within their bounds.
+pub record MayTakeStep (stripes : ℕ) (counts : Counts) (c : ℕ) (step : CallerStep)
+    (old : Reach) : Type 0 where
   pub goes : GoesWith old.session old.table
-  pub free : (half : Bool) × (refusal_in half old.session.stance.stance step ≡ None)
-  pub placed : lacks_in old.session.stance.stance (is_some old.session.cursor) step ≡ false
-  pub owner : (c : ℕ) × (owner_of step ≡ Some (Caller c))
-  pub caller : (c : ℕ) → owner_of step ≡ Some (Caller c) → c < 64
+  pub free : (half : Bool) × (refusal_in half old.session.stance.stance (step_by c step) ≡ None)
+  pub placed : lacks_in old.session.stance.stance (is_some old.session.cursor) (step_by c step)
+      ≡ false
+  pub caller : c < 64
   pub many : length old.locks ≡ stripes
   pub some_stripe : 0 < stripes
   pub begins : counts.began < 2 ^ 63
   pub commits : counts.committed < 2 ^ 63
 
--- The effect of a caller's step. It depends on the answer and, for the step `Ask`, on the claim. Of
--- the stance, only the room may change: the step's entry is added to the stance afterwards.
-abbrev pub HasEffect : Claim → ℕ → Counts → Step → Reach → Answer → Reach → Type 0
-HasEffect claim stripes counts (Begin c) old (Answer.Began n) new =
+-- The effect of a step of caller `c`. It depends on the answer. Of the stance, only the room may
+-- change: the step's entry is added to the stance afterwards.
+abbrev pub HasEffect : ℕ → Counts → ℕ → CallerStep → Reach → Answer → Reach → Type 0
+HasEffect stripes counts c CallerStep.Begin old (Answer.Began n) new =
     (n ≡ counts.began + 1) × (new ≡ old)
-HasEffect claim stripes counts (Ask c op) old answer new =
+HasEffect stripes counts c (CallerStep.Ask op claim) old answer new =
     AsksBy claim c (stripe_of stripes (key_of op)) op old answer new
-HasEffect claim stripes counts (Seek c) old Answer.Placed new =
+HasEffect stripes counts c CallerStep.Seek old Answer.Placed new =
     SeeksIn old.session old.table new.session new.table × (new.locks ≡ old.locks)
-HasEffect claim stripes counts (Act c) old answer new = ActsIn c old answer new
-HasEffect claim stripes counts (Save c) old answer new =
+HasEffect stripes counts c CallerStep.Act old answer new = ActsIn c old answer new
+HasEffect stripes counts c CallerStep.Save old answer new =
     Saves old.session answer new.session × (new ≡ record old { session = new.session })
-HasEffect claim stripes counts (Back c n) old Answer.Leaving new =
+HasEffect stripes counts c (CallerStep.Back n) old Answer.Leaving new =
     new ≡ record old { session = record old.session { cursor = None } }
-HasEffect claim stripes counts (Commit c) old (Answer.Committed p) new =
+HasEffect stripes counts c CallerStep.Commit old (Answer.Committed p) new =
     (p ≡ counts.committed + 1) × SettlesIn old.session old.table new.session new.table
     × Releases c old.locks new.locks
-HasEffect claim stripes counts (Abort c) old Answer.Leaving new =
+HasEffect stripes counts c CallerStep.Abort old Answer.Leaving new =
     WithdrawsIn old.session old.table new.session new.table × (new.locks ≡ old.locks)
-HasEffect claim stripes counts step old answer new = ⊥
+HasEffect stripes counts c step old answer new = ⊥

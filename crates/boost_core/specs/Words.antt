@@ -4,7 +4,7 @@
 pub use Rattle.boost_core.specs.declared.claim.Claim.{Claim}
 pub use Rattle.boost_core.specs.declared.claim.Claim.TheVariants.{Lock, Right, Held, Stale}
 use Rattle.std.specs.Prelude.{◌≡◌, ◌⊎◌, ℕ, ◌+◌, ◌==◌, ◌&&◌, Bool, true, false, not, IsTrue, None, if◌then◌else◌}
-use Rattle.boost_core.specs.Vocabulary.{Now, Entry, Op, Step, Ask, Answer, NoMemory, StaleWord, StampsUsedUp, reserved, has_begun, is_locked, takes_node}
+use Rattle.boost_core.specs.Vocabulary.{may_change, Now, Entry, Op, Step, Ask, Answer, NoMemory, StaleWord, StampsUsedUp, reserved, has_begun, is_locked}
 use Rattle.boost_core.specs.State.{State}
 use Rattle.boost_core.specs.Refusals.{refusal_of, has_stamp_for}
 use Rattle.boost_core.specs.Answers.{may_stand}
@@ -77,7 +77,7 @@ Asks claim old step answer new =
 abbrev pub stamp_by : Claim → ℕ → Step → Answer → ℕ
 stamp_by Lock stamp step answer = stamp_after stamp step answer
 stamp_by Right stamp (Ask c op) (Answer.Refused StaleWord) =
-    if takes_node op then stamp + 1 else stamp
+    if may_change op then stamp + 1 else stamp
 stamp_by Right stamp step answer = stamp_after stamp step answer
 stamp_by claim stamp step answer = stamp
 

@@ -1,34 +1,27 @@
 //! The steps that belong to no caller: sweeps, the three steps of a bucket's initialisation, and
 //! doubling. Each is one call of the table, whose outcome is converted to an answer. They add no
 //! entry.
-ghost use Rattle.std.specs.Prelude.{◌≡◌, ◌≤◌, true};
+ghost use Rattle.std.specs.Prelude.{◌≡◌, ◌≤◌};
 ghost use Rattle.map_ops.specs.TableAt.{table_changes, Follows};
-ghost use Rattle.boost_core.specs.Serves.{is_served, Serves, doubled, linked, answer_to_seek, stored, swept};
+ghost use Rattle.boost_core.specs.Serves.{Serves, doubled, linked, answer_to_seek, stored, swept};
 
+use crate::steps::HelperStep;
 use map_ops::{Double, InitLink, InitSeek, SweepOutcome, Table};
-use txn_trace::{Answer, Refusal, Step};
+use txn_trace::{Answer, Refusal};
 
 /// Takes a step that belongs to no caller.
-pub(crate) fn serve(step: Step, table: &mut Table) -> Answer
-    requires { is_served step ≡ true }
+#[inline(always)]
+pub(crate) fn serve(step: HelperStep, table: &mut Table) -> Answer
     ensures serves { Serves step table.old result table.new }
     ensures rises { table_changes table.old ≤ table_changes table.new }
     ensures follows { Follows table.old table.new }
 {
     match step {
-        Step::Sweep => swept_answer(table.sweep()),
-        Step::InitSeek(helper, bucket) => sought_answer(table.init_seek(helper, bucket)),
-        Step::InitLink(helper) => linked_answer(table.init_link(helper)),
-        Step::InitStore(helper) => stored_answer(table.init_store(helper)),
-        Step::Double(seen) => doubled_answer(table.double(seen)),
-        Step::Begin(_)
-        | Step::Ask(..)
-        | Step::Seek(_)
-        | Step::Act(_)
-        | Step::Save(_)
-        | Step::Back(..)
-        | Step::Commit(_)
-        | Step::Abort(_) => unreachable!(),
+        HelperStep::Sweep => swept_answer(table.sweep()),
+        HelperStep::InitSeek(helper, bucket) => sought_answer(table.init_seek(helper, bucket)),
+        HelperStep::InitLink(helper) => linked_answer(table.init_link(helper)),
+        HelperStep::InitStore(helper) => stored_answer(table.init_store(helper)),
+        HelperStep::Double(seen) => doubled_answer(table.double(seen)),
     }
 }
 

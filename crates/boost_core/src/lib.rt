@@ -35,6 +35,7 @@ mod owner;
 mod plain;
 mod session;
 mod sessions;
+mod steps;
 mod transactions;
 mod words;
 

@@ -1,11 +1,12 @@
 // PROMISES each-transaction-as-if-alone: Core::trace, step, run
 // PROMISES the-present-map: Core::map, regular_list, count
 // PROMISES each-step-is-a-move-of-the-machine: Core::step, run, owed
-//! The core: its fields, its invariant, and how it takes a step. For a caller's step, `call` tests
-//! the refusals, reserves room, lets the session take the step, and adds the step's entry. A step
-//! that belongs to no caller goes straight to the table (`serve`), and adds no entry. The steps
-//! themselves are in `session.rt`, `operations.rt`, `transactions.rt` and `buckets.rt`.
-ghost use Rattle.std.specs.Prelude.{◌≡◌, ℕ, ◌<◌, true, false, is_some, Some, IfOk, IfErr, OnErr, length};
+//! The core: its fields, its invariant, and how it takes a step. `step` divides the steps into two
+//! types (`steps.rt`). For a caller's step, `call` tests the refusals, reserves room, lets the
+//! session take the step, and adds the step's entry. A step that belongs to no caller goes straight
+//! to the table (`serve`), and adds no entry. The steps themselves are in `session.rt`,
+//! `operations.rt`, `transactions.rt` and `buckets.rt`.
+ghost use Rattle.std.specs.Prelude.{◌≡◌, ℕ, ◌<◌, true, false, is_some, IfOk, IfErr, OnErr, length};
 ghost use Rattle.std.specs.List.{All};
 ghost use Rattle.txn_words.specs.Map.{count_of};
 ghost use Rattle.txn_words.specs.Kinds.{caller_of};
@@ -22,6 +23,7 @@ use crate::counts::Counts;
 use crate::owner::{Owner, placed_after};
 use crate::session::Session;
 use crate::sessions::idle_sessions;
+use crate::steps::{CallerStep, HelperStep};
 use key_locks::KeyLocks;
 use map_ops::Table;
 use std::alloc::{AllocError, Global};
@@ -81,9 +83,9 @@ impl Core {
     ghost use Rattle.boost_core.specs.Machine.{Cursors, Happens, Moves};
     ghost use Rattle.boost_core.specs.Nodes.{IsInOrder};
     ghost use Rattle.boost_core.specs.Words.{Goes, IsClaim, ListsBy, is_ask};
-    ghost use Rattle.boost_core.specs.Refusals.{owner_of, refusal_of};
-    ghost use Rattle.boost_core.specs.Serves.{is_served};
+    ghost use Rattle.boost_core.specs.Refusals.{refusal_of};
     ghost use Rattle.boost_core.specs.State.{caller_changes};
+    ghost use Rattle.boost_core.specs.Steps.{claim_in, step_by, step_from};
 
     /// A new core: no caller has a transaction, and the table has two buckets, the first of them
     /// initialised.
@@ -130,7 +132,7 @@ impl Core {
     }
 
     /// Takes one step, which makes a move of the machine. `specs/Machine.antt` says which answers
-    /// are allowed, and what the state is after each. `specs/Events.antt` says what a step does to
+    /// are allowed, and what the state is after each. `specs/Rows.antt` says what a step does to
     /// the linked nodes and to the cursors of callers and helpers.
     ///
     /// If tests refuse the step, the first refusal is the answer, and the state is unchanged. Only
@@ -160,32 +162,30 @@ impl Core {
     {
         // One arm for each kind of step, so that `call` is compiled for each.
         match step {
-            Step::Begin(caller) => self.call(caller, Step::Begin(caller), Claim::Lock),
-            Step::Ask(caller, op) => self.call(caller, Step::Ask(caller, op), Claim::Lock),
-            Step::Seek(caller) => self.call(caller, Step::Seek(caller), Claim::Lock),
-            Step::Act(caller) => self.call(caller, Step::Act(caller), Claim::Lock),
-            Step::Save(caller) => self.call(caller, Step::Save(caller), Claim::Lock),
-            Step::Back(caller, level) => self.call(caller, Step::Back(caller, level), Claim::Lock),
-            Step::Commit(caller) => self.call(caller, Step::Commit(caller), Claim::Lock),
-            Step::Abort(caller) => self.call(caller, Step::Abort(caller), Claim::Lock),
-            Step::Sweep
-            | Step::InitSeek(..)
-            | Step::InitLink(_)
-            | Step::InitStore(_)
-            | Step::Double(_) => self.serve(step),
+            Step::Begin(caller) => self.call(caller, CallerStep::Begin),
+            Step::Ask(caller, op) => self.call(caller, CallerStep::Ask(op, Claim::Lock)),
+            Step::Seek(caller) => self.call(caller, CallerStep::Seek),
+            Step::Act(caller) => self.call(caller, CallerStep::Act),
+            Step::Save(caller) => self.call(caller, CallerStep::Save),
+            Step::Back(caller, level) => self.call(caller, CallerStep::Back(level)),
+            Step::Commit(caller) => self.call(caller, CallerStep::Commit),
+            Step::Abort(caller) => self.call(caller, CallerStep::Abort),
+            Step::Sweep => self.serve(HelperStep::Sweep),
+            Step::InitSeek(helper, bucket) => self.serve(HelperStep::InitSeek(helper, bucket)),
+            Step::InitLink(helper) => self.serve(HelperStep::InitLink(helper)),
+            Step::InitStore(helper) => self.serve(HelperStep::InitStore(helper)),
+            Step::Double(seen) => self.serve(HelperStep::Double(seen)),
         }
     }
 
-    /// Takes a caller's step. If the step is an `Ask`, `claim` is the claim to its stripe. Tests
-    /// the refusals, reserves room, lets the session take the step, adds the entry, and notes whose
-    /// cursor was placed.
+    /// Takes a caller's step. Tests the refusals, reserves room, lets the session take the step,
+    /// adds the entry, and notes whose cursor was placed.
     #[inline(always)]
-    pub(crate) fn call(&mut self, caller: u64, step: Step, claim: Claim) -> Answer
-        requires owner { owner_of step ≡ Some (Owner.Caller caller) }
-        requires claim { IsClaim claim self.old step }
-        ensures moves { Goes claim self.old step result self.new }
-        ensures lists { ListsBy claim self.old step result self.new }
-        ensures cursors { Cursors self.old step result self.new }
+    pub(crate) fn call(&mut self, caller: u64, step: CallerStep) -> Answer
+        requires { IsClaim (claim_in step) self.old (step_by caller step) }
+        ensures moves { Goes (claim_in step) self.old (step_by caller step) result self.new }
+        ensures lists { ListsBy (claim_in step) self.old (step_by caller step) result self.new }
+        ensures cursors { Cursors self.old (step_by caller step) result self.new }
         ensures limits { self.new.limits ≡ self.old.limits }
         ensures words { self.new.words ≡ self.old.words }
         ensures cursor { result ≡ Answer.Placed
@@ -194,11 +194,9 @@ impl Core {
         if let Some(refusal) = self.refusal(caller, step) {
             return Answer::Refused(refusal);
         }
-        if self
-            .history
-            .reserve(self.owed + claim.entry_room(step) as usize)
-            .is_err()
-        {
+        let whole = step.by(caller);
+        let room = step.claim().entry_room(whole) as usize;
+        if self.history.reserve(self.owed + room).is_err() {
             return Answer::Refused(Refusal::NoMemory);
         }
         let stripes = u64::from(self.limits.stripes());
@@ -206,31 +204,31 @@ impl Core {
         let _size = Table::size(&self.table);
         let session = &mut self.sessions[caller as usize];
         let answer = session.answer(
+            caller,
             step,
-            claim,
             stripes,
             self.counts,
             &mut self.table,
             &mut self.locks,
         );
-        let entry = entry_of(step, answer);
+        let entry = entry_of(whole, answer);
         self.owed = add(&mut session.stance, &mut self.history, self.owed, entry);
         note_begun(&mut self.begun, entry);
         self.counts = self.counts.after(answer);
-        self.placed = placed_after(self.placed, step, answer);
+        self.placed = placed_after(self.placed, whole, answer);
         answer
     }
 
     /// Takes a step that belongs to no caller, and notes whose cursor was placed.
-    fn serve(&mut self, step: Step) -> Answer
-        requires { is_served step ≡ true }
-        ensures event { Happens self.old step result self.new }
+    #[inline(always)]
+    fn serve(&mut self, step: HelperStep) -> Answer
+        ensures event { Happens self.old (step_from step) result self.new }
         ensures words { self.new.words ≡ self.old.words }
     {
         // By the contract of `size` the invariants of the table hold.
         let _size = Table::size(&self.table);
         let answer = serve(step, &mut self.table);
-        self.placed = placed_after(self.placed, step, answer);
+        self.placed = placed_after(self.placed, step.to_step(), answer);
         answer
     }
 
@@ -360,19 +358,19 @@ impl Core {
     /// The refusal of the first test that refuses the step, or `None` if no test refuses it. Memory
     /// and stamps are not tested here.
     #[inline(always)]
-    pub(crate) fn refusal(&self, caller: u64, step: Step) -> Option<Refusal>
-        requires { owner_of step ≡ Some (Owner.Caller caller) }
-        ensures { result ≡ refusal_of self.now step }
+    pub(crate) fn refusal(&self, caller: u64, step: CallerStep) -> Option<Refusal>
+        ensures { result ≡ refusal_of self.now (step_by caller step) }
     {
         if caller >= u64::from(self.limits.callers()) {
             return Some(Refusal::NoSuchCaller);
         }
         let session = &self.sessions[caller as usize];
-        let refusal = session.stance.refusal(self.limits, step);
+        let whole = step.by(caller);
+        let refusal = session.stance.refusal(self.limits, whole);
         if refusal.is_some() {
             return refusal;
         }
-        if session.lacks_cursor(step) {
+        if session.lacks_cursor(whole) {
             return Some(Refusal::Unplaced);
         }
         None

@@ -3,7 +3,7 @@
 //! ghost field. Each step that is not refused sets the owner; a step that places no cursor sets it
 //! to none. By the core's invariant the owner's cursor fits.
 ghost use Rattle.std.specs.Prelude.{◌≡◌};
-ghost use Rattle.boost_core.specs.Events.{event_of, placed_in};
+ghost use Rattle.boost_core.specs.Rows.{row_of};
 ghost use Rattle.boost_core.specs.Machine.{placed_then};
 
 use txn_trace::{Answer, Step};

@@ -7,6 +7,7 @@ ghost use Rattle.boost_core.specs.Plain.{outcome_of};
 
 use crate::claim::Claim;
 use crate::machine::Core;
+use crate::steps::CallerStep;
 use txn_drive::{Call, Drive, End, Turn};
 use txn_trace::{Answer, Op, Refusal, Step};
 
@@ -99,7 +100,7 @@ impl Core {
         ensures returns { Returns self.old caller level result self.new }
         ensures words { self.new.words ≡ self.old.words }
     {
-        match self.call(caller, Step::Back(caller, level), Claim::Lock) {
+        match self.call(caller, CallerStep::Back(level)) {
             Answer::Leaving => self.take_back(caller),
             answer => answer,
         }
@@ -124,7 +125,7 @@ impl Core {
         if self.leaves_to_end(caller) {
             return self.take_back(caller);
         }
-        match self.call(caller, Step::Abort(caller), Claim::Lock) {
+        match self.call(caller, CallerStep::Abort) {
             Answer::Leaving => self.take_back(caller),
             answer => answer,
         }
@@ -185,10 +186,10 @@ impl Core {
         ensures operates { Operates self.old caller op result self.new }
         ensures words { self.new.words ≡ false }
     {
-        match self.call(caller, Step::Ask(caller, op), Claim::Lock) {
+        match self.call(caller, CallerStep::Ask(op, Claim::Lock)) {
             Answer::Asked => {
-                self.call(caller, Step::Seek(caller), Claim::Lock);
-                self.call(caller, Step::Act(caller), Claim::Lock)
+                self.call(caller, CallerStep::Seek);
+                self.call(caller, CallerStep::Act)
             }
             answer => answer,
         }
@@ -203,10 +204,10 @@ impl Core {
         ensures words { self.new.words ≡ self.old.words }
     {
         while self.has_job(caller) {
-            self.call(caller, Step::Seek(caller), Claim::Lock);
-            self.call(caller, Step::Act(caller), Claim::Lock);
+            self.call(caller, CallerStep::Seek);
+            self.call(caller, CallerStep::Act);
         }
-        self.call(caller, Step::Act(caller), Claim::Lock)
+        self.call(caller, CallerStep::Act)
     }
 
     /// Returns true if a caller has a change to take back.

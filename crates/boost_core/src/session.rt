@@ -3,8 +3,8 @@
 //! are in `operations.rt` and `transactions.rt`.
 ghost use Rattle.std.specs.Prelude.{◌≡◌, ◌+◌, ◌≤◌, ◌<◌, true, None, is_some, length};
 
-use crate::claim::Claim;
 use crate::counts::Counts;
+use crate::steps::CallerStep;
 use key_locks::KeyLocks;
 use map_ops::{Cursor, MapJob, Pending, Table};
 use std::alloc::Global;
@@ -72,40 +72,35 @@ impl Session {
     #[inline(always)]
     pub(crate) fn answer(
         &mut self,
-        step: Step,
-        claim: Claim,
+        caller: u64,
+        step: CallerStep,
         stripes: u64,
         counts: Counts,
         table: &mut Table,
         locks: &mut KeyLocks,
     ) -> Answer
-        requires { MayTakeStep stripes counts step (reach self.old table.old locks.old) }
-        ensures does { HasEffect claim stripes counts step (reach self.old table.old locks.old)
+        requires { MayTakeStep stripes counts caller step (reach self.old table.old locks.old) }
+        ensures does { HasEffect stripes counts caller step (reach self.old table.old locks.old)
             result (reach self.new table.new locks.new) }
         ensures rises { table_changes table.old ≤ table_changes table.new }
         ensures placed { KeepsPlaced table.old table.new }
     {
         match step {
-            Step::Begin(_) => Answer::Began(counts.began + 1),
-            Step::Ask(caller, op) => {
+            CallerStep::Begin => Answer::Began(counts.began + 1),
+            CallerStep::Ask(op, claim) => {
                 let stripe = op.key() % stripes;
                 self.ask_by(claim, caller as usize, stripe as usize, op, table, locks)
             }
-            Step::Seek(_) => self.seek(table),
-            Step::Act(caller) => self.act(caller as usize, table, locks),
-            Step::Save(_) => self.save(),
-            Step::Back(..) => self.drop_cursor(),
-            Step::Commit(caller) => {
+            CallerStep::Seek => self.seek(table),
+            CallerStep::Act => self.act(caller as usize, table, locks),
+            CallerStep::Save => self.save(),
+            CallerStep::Back(_) => self.drop_cursor(),
+            CallerStep::Commit => {
                 self.settle(table);
                 locks.release_all(caller as usize);
                 Answer::Committed(counts.committed + 1)
             }
-            Step::Abort(_) => self.withdraw(table),
-            Step::Sweep
-            | Step::InitSeek(..)
-            | Step::InitLink(_)
-            | Step::InitStore(_)
-            | Step::Double(_) => unreachable!(),
+            CallerStep::Abort => self.withdraw(table),
         }
     }
 }

@@ -9,6 +9,7 @@ ghost use Rattle.boost_core.specs.Machine.{start_with_words};
 
 use crate::claim::Claim;
 use crate::machine::Core;
+use crate::steps::CallerStep;
 use key_locks::StripeRight;
 use std::alloc::Global;
 use txn_trace::{Answer, Limits, Op, Refusal, Step};
@@ -66,7 +67,7 @@ impl Core {
     {
         // The caller only shows that it has the right. The step does not use the stripe's number.
         let _stripe = right.stripe();
-        self.call(caller, Step::Ask(caller, op), Claim::Right)
+        self.call(caller, CallerStep::Ask(op, Claim::Right))
     }
 
     /// Asks for an operation with the word of its stripe, which names a caller. The word is the
@@ -90,7 +91,7 @@ impl Core {
         ensures words { self.new.words ≡ true }
     {
         let claim = self.claim_of(caller, word - 1);
-        self.call(caller, Step::Ask(caller, op), claim)
+        self.call(caller, CallerStep::Ask(op, claim))
     }
 
     /// The claim of `caller` to a stripe whose word names `named`.

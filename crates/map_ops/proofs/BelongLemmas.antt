@@ -8,6 +8,7 @@ use Rattle.node_list.proofs.OrderLemmas.{each_changed}
 use Rattle.list_steps.specs.Steps.{without_first_marked}
 use Rattle.bucket_table.specs.Dummies.{IsKeyedNode, is_dummy_of}
 use Rattle.bucket_table.proofs.DummyLemmas.{each_sought, has_dummy-linked_after, has_dummy-changed_at, either}
+use Rattle.map_ops.specs.Lists.{KeepsDummies}
 use Rattle.map_ops.specs.TableAt.{linked_of, table_of}
 use Rattle.map_ops.specs.Sound.{Belong, IsEvenDummy}
 
@@ -75,5 +76,5 @@ has_dummy-swept (n ∷ rest) bucket plain = elim (either n.marked) [
     marked_no_dummy Regular is marked = regular_no_dummy n bucket is
 
 -- If the same buckets have linked dummies, `linked_of` is unchanged.
-pub linked_same : (old new : Listing) (buckets : Directory) → ((bucket : ℕ) → has_dummy new.nodes bucket ≡ has_dummy old.nodes bucket) → linked_of (table_of new buckets) ≡ linked_of (table_of old buckets)
+pub linked_same : (old new : Listing) (buckets : Directory) → KeepsDummies old new → linked_of (table_of new buckets) ≡ linked_of (table_of old buckets)
 linked_same old new buckets same = ap (λ (f : ℕ → Bool). map f (range_with_len 0 (limit_of buckets))) (λ i bucket. same bucket i)

@@ -1,18 +1,16 @@
--- How a step at a key changes the table.
+-- How a step at a key changes the list.
 use Rattle.std.proofs.Common.{◌≡◌, ℕ, List, [], ◌∷◌, Some, None, false, sym, ◌∙◌, ap, subst}
-use Rattle.map_ops.specs.Vocabulary.{Directory, IsSound, Listing, NodeAt, Regular, Replaces, SortKey, get, has_dummy, linked_after}
+use Rattle.map_ops.specs.Vocabulary.{IsSound, Listing, NodeAt, Regular, Replaces, SortKey, get, has_dummy, linked_after}
 use Rattle.map_ops.specs.Vocabulary.{marked_at, node_of, pairs, regular_at, written_at}
 use Rattle.map_ops.proofs.Vocabulary.{Rises, found_linked, some-injective}
 use Rattle.list_steps.specs.Steps.{Links, Marks, Swaps}
 use Rattle.list_steps.proofs.ContentLemmas.{pair_regular}
-use Rattle.map_ops.specs.TableAt.{map_of, table_of}
-use Rattle.map_ops.specs.Steps.{HasNode, HasGap, Sets}
-use Rattle.map_ops.specs.Nodes.{LinksNode, MarksNode, WritesNode}
+use Rattle.map_ops.specs.Lists.{HasNode, HasGap, Sets, content}
+use Rattle.map_ops.specs.Nodes.{LinksNode, MarksNode, WritesNode, WritesNothing}
 use Rattle.map_ops.specs.Sound.{Belong}
 use Rattle.map_ops.proofs.ContentLemmas.{rises-pairs, map_of-linked, map_of-written, map_of-unlinked}
-use Rattle.map_ops.proofs.KeepLemmas.{same_buckets}
 use Rattle.map_ops.proofs.BelongLemmas.{belong_linked, belong_marked, belong_written, has_dummy-marked, has_dummy-written}
-use Rattle.map_ops.proofs.BelongLemmas.{has_dummy-regular, linked_same}
+use Rattle.map_ops.proofs.BelongLemmas.{has_dummy-regular}
 
 module _ (old new : Listing) (key : ℕ) (sound : IsSound old) (after : IsSound new) (belong : Belong old.nodes) where
   old_rises : Rises (pairs old.nodes)
@@ -25,7 +23,7 @@ module _ (old new : Listing) (key : ℕ) (sound : IsSound old) (after : IsSound 
   own_key place n has is = ap (λ (m : NodeAt). m.at.key) (own_node place n has is) ∙ ap (λ (at : SortKey). at.key) has.its.at
 
   -- If the key's node has the value `value`, the map of the pairs has this value at the key.
-  pub had : (place value : ℕ) (n : NodeAt) → HasNode old key place → node_of old.nodes place ≡ Some n → n.value ≡ value → get (map_of (pairs old.nodes)) key ≡ Some value
+  pub had : (place value : ℕ) (n : NodeAt) → HasNode old key place → node_of old.nodes place ≡ Some n → n.value ≡ value → get (content old) key ≡ Some value
   had place value n has is value_is = has.value ∙ ap Some (ap (λ (m : NodeAt). m.value) (sym (own_node place n has is)) ∙ value_is)
 
   -- If a step marks the key's node, `MarksNode` holds.
@@ -48,14 +46,13 @@ module _ (old new : Listing) (key : ℕ) (sound : IsSound old) (after : IsSound 
   marks_belong place value marks = subst Belong (sym marks.becomes.nodes) (belong_marked old.nodes place belong)
 
   -- If a key's node is marked, the key has no value afterwards.
-  pub marks_sets : (place value : ℕ) → HasNode old key place → Marks old new place value → (buckets : Directory) → Sets (table_of old buckets) (table_of new buckets) key None
-  marks_sets place value has marks buckets =
+  pub marks_sets : (place value : ℕ) → HasNode old key place → Marks old new place value → Sets old new key None
+  marks_sets place value has marks =
       let replaces : Replaces (pairs old.nodes) (pairs new.nodes) ((key, value) ∷ []) [] =
       subst (λ k. Replaces (pairs old.nodes) (pairs new.nodes) ((k, value) ∷ []) []) (own_key place marks.node has marks.is) marks.content in
       record {
         content_is = map_of-unlinked (pairs old.nodes) (pairs new.nodes) key old_rises (rises-pairs new.nodes after.rising (marks_belong place value marks).keyed) value replaces;
-        buckets = same_buckets old new buckets;
-        linked = linked_same old new buckets (λ b. ap (λ (nodes : List NodeAt). has_dummy nodes b) marks.becomes.nodes ∙ has_dummy-marked old.nodes place b);
+        dummies = λ b. ap (λ (nodes : List NodeAt). has_dummy nodes b) marks.becomes.nodes ∙ has_dummy-marked old.nodes place b;
         last = marks.becomes.last;
       }
 
@@ -63,14 +60,13 @@ module _ (old new : Listing) (key : ℕ) (sound : IsSound old) (after : IsSound 
   swaps_belong place was now swaps = subst Belong (sym swaps.becomes.nodes) (belong_written old.nodes place now belong)
 
   -- If a key's node is written, the key has the new value afterwards.
-  pub swaps_sets : (place was now : ℕ) → HasNode old key place → Swaps old new place was now → (buckets : Directory) → Sets (table_of old buckets) (table_of new buckets) key (Some now)
-  swaps_sets place was now has swaps buckets =
+  pub swaps_sets : (place was now : ℕ) → HasNode old key place → Swaps old new place was now → Sets old new key (Some now)
+  swaps_sets place was now has swaps =
       let replaces : Replaces (pairs old.nodes) (pairs new.nodes) ((key, was) ∷ []) ((key, now) ∷ []) =
       subst (λ k. Replaces (pairs old.nodes) (pairs new.nodes) ((k, was) ∷ []) ((k, now) ∷ [])) (own_key place swaps.node has swaps.is) swaps.content in
       record {
         content_is = map_of-written (pairs old.nodes) (pairs new.nodes) key old_rises (rises-pairs new.nodes after.rising (swaps_belong place was now swaps).keyed) was now replaces;
-        buckets = same_buckets old new buckets;
-        linked = linked_same old new buckets (λ b. ap (λ (nodes : List NodeAt). has_dummy nodes b) swaps.becomes.nodes ∙ has_dummy-written old.nodes place now b);
+        dummies = λ b. ap (λ (nodes : List NodeAt). has_dummy nodes b) swaps.becomes.nodes ∙ has_dummy-written old.nodes place now b;
         last = swaps.becomes.last;
       }
 
@@ -88,21 +84,20 @@ module _ (old new : Listing) (key : ℕ) (sound : IsSound old) (after : IsSound 
     links_belong pred links = subst Belong (sym links.takes.nodes) (belong_linked old.nodes pred x key belong kind place)
 
     -- If a node is linked for a key, the key has the node's value afterwards.
-    pub links_sets : (pred : ℕ) → HasGap old key pred → Links old new pred x → (buckets : Directory) → Sets (table_of old buckets) (table_of new buckets) key (Some x.value)
-    links_sets pred room links buckets =
+    pub links_sets : (pred : ℕ) → HasGap old key pred → Links old new pred x → Sets old new key (Some x.value)
+    links_sets pred room links =
         let replaces : Replaces (pairs old.nodes) (pairs new.nodes) [] ((key, x.value) ∷ []) =
         subst (λ now. Replaces (pairs old.nodes) (pairs new.nodes) [] now) (pair_regular x kind unmarked ∙ ap (λ (at : SortKey). (at.key, x.value) ∷ []) place) links.content in
         record {
           content_is = map_of-linked (pairs old.nodes) (pairs new.nodes) key old_rises (rises-pairs new.nodes after.rising (links_belong pred links).keyed) x.value replaces;
-          buckets = same_buckets old new buckets;
-          linked = linked_same old new buckets (λ b. ap (λ (nodes : List NodeAt). has_dummy nodes b) links.takes.nodes ∙ has_dummy-regular old.nodes pred x b (found_linked old.nodes pred room.vacant.node room.vacant.is) kind);
+          dummies = λ b. ap (λ (nodes : List NodeAt). has_dummy nodes b) links.takes.nodes ∙ has_dummy-regular old.nodes pred x b (found_linked old.nodes pred room.vacant.node room.vacant.is) kind;
           last = links.takes.last;
         }
 
 -- If a spare is given back after the key's node was written, `WritesNode` still holds.
-pub written_then_back : (old mid new : Listing) (key value : ℕ) → WritesNode old mid key value → new.nodes ≡ mid.nodes → new.changes ≡ mid.changes → WritesNode old new key value
-written_then_back old mid new key value writes same kept = record {
+pub written_then_back : (old mid new : Listing) (key value : ℕ) → WritesNode old mid key value → WritesNothing mid new → WritesNode old new key value
+written_then_back old mid new key value writes same = record {
   node = writes.node;
   its = writes.its;
-  writes = record { nodes = same ∙ writes.writes.nodes; changes = kept ∙ writes.writes.changes };
+  writes = record { nodes = same.nodes ∙ writes.writes.nodes; changes = same.changes ∙ writes.writes.changes };
 }

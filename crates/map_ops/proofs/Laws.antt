@@ -1,30 +1,29 @@
 -- Shows that an operation and then its job restore the content, because the job sets the key to its
 -- old value, and that a spare stays the table's until it is spent. Higher layers use these lemmas.
-use Rattle.std.proofs.Common.{◌≡◌, ◌≢◌, ℕ, inl, inr, Bool, true, false, cond, Option, Some, None, [], refl, sym, ap, subst, ◌∙◌}
+use Rattle.std.proofs.Common.{◌≡◌, ◌≢◌, ℕ, inl, inr, Bool, true, false, cond, Option, Some, None, refl, sym, ap, subst, ◌∙◌}
 use Rattle.std.specs.Prelude.{is_some, IfSome, nat_eq}
-use Rattle.map_ops.specs.Vocabulary.{Directory, Get, Map, Op, Put, PutIf, SpareAt, Take, after, get, insert, option_eq, out_at, remove}
+use Rattle.map_ops.specs.Vocabulary.{Get, Map, Op, Put, PutIf, SpareAt, Take, after, get, insert, option_eq, remove}
 use Rattle.map_ops.specs.Vocabulary.{set_at}
 use Rattle.map_ops.proofs.Vocabulary.{cases_eq, eq-eqb, false≢true, get-insert, get-remove, get-set_at, ne_eqb, same_map, some-injective}
 use Rattle.map_ops.proofs.Vocabulary.{some-none}
 use Rattle.txn_words.proofs.Maps.{get-insert-here, get-remove-here}
 use Rattle.map_ops.specs.declared.job.MapJob.{MapJob}
 use Rattle.map_ops.specs.declared.job.MapJob.TheVariants.{Unput, Restore, Relink}
-use Rattle.map_ops.specs.TableAt.{TableAt, content, Owns, KeepsOthers, KeepsSpares}
-use Rattle.map_ops.specs.Jobs.{PendingAt, IsDue, job_of, key_of_job, relink, spare_of_job, takes_node, unput, value_before}
-use Rattle.map_ops.specs.Changes.{Applies, GivesFor, GivesSpare, JobSpare, OwnsIf, Prepares, ShowsAfter, ShowsBefore, TakesBack}
+use Rattle.node_list.specs.Nodes.{IsOut}
+use Rattle.map_ops.specs.Lists.{KeepsOthers}
+use Rattle.map_ops.specs.TableAt.{TableAt, content, KeepsSpares}
+use Rattle.map_ops.specs.Jobs.{IsDue, job_of, key_of_job, relink, spare_of_job, unput, value_before}
+use Rattle.txn_words.specs.Owed.{may_change}
+use Rattle.map_ops.specs.Changes.{Applies, JobSpare, OwnsIf, ShowsAfter, ShowsBefore, TakesBack}
 use Rattle.map_ops.proofs.RemoveLemmas.{remove-absent}
 
 -- A spare still belongs to the table if the spares are unchanged.
-pub still_owned : (old new : TableAt) (spare : SpareAt) → KeepsSpares old new → Owns old spare → Owns new spare
+pub still_owned : (old new : TableAt) (spare : SpareAt) → KeepsSpares old new → IsOut old.list spare → IsOut new.list spare
 still_owned old new spare keeps owned = keeps spare.place ∙ owned
 
 -- A spare still belongs to the table if another spare is given or spent.
-pub other_owned : (old new : TableAt) (spare : SpareAt) (place : ℕ) → KeepsOthers old new place → spare.place ≢ place → Owns old spare → Owns new spare
+pub other_owned : (old new : TableAt) (spare : SpareAt) (place : ℕ) → KeepsOthers old.list new.list place → spare.place ≢ place → IsOut old.list spare → IsOut new.list spare
 other_owned old new spare place keeps other owned = keeps spare.place other ∙ owned
-
--- The place of a new spare differs from the place of every spare that belonged to the table before.
-pub fresh_apart : (old new : TableAt) (spare other : SpareAt) → GivesSpare old new spare → Owns old other → other.place ≢ spare.place
-fresh_apart old new spare other gives owned same = let gone : out_at old.list other.place ≡ None = ap (out_at old.list) same ∙ gives.fresh in let both : Some other.stamp ≡ None = sym owned ∙ gone in cc
 
 pub get-set_at-here : (m : Map) (k : ℕ) (value : Option ℕ) → get (set_at m k value) k ≡ value
 get-set_at-here m k value = get-set_at m k value k ∙ ap (λ b. cond b value (get m k)) (eq-eqb k k refl)
@@ -33,10 +32,6 @@ get-set_at-here m k value = get-set_at m k value k ∙ ap (λ b. cond b value (g
 pub shows_before : (old new : TableAt) (job : MapJob) → TakesBack old new job → ShowsBefore job new
 shows_before old new job back =
     ap (λ m. get m (key_of_job job)) back.content_is ∙ get-set_at-here (content old) (key_of_job job) (value_before job)
-
--- A directory without buckets. It is used as the argument where a statement holds for any buckets.
-abbrev pub no_buckets : Directory
-no_buckets = record { size = 0; entries = []; helpers = [] }
 
 put_is_due : (m : Map) (k v : ℕ) (job : MapJob) (o : Option ℕ) → unput k o ≡ Some job → IsDue (insert m k v) job
 put_is_due m k v job None same = subst (IsDue (insert m k v)) (some-injective same) (ap is_some (get-insert-here m k v))
@@ -95,7 +90,7 @@ put_no_job m k v None none = absurd (some-none none)
 put_no_job m k v (Some old) none = absurd (some-none none)
 
 -- An operation without a job leaves the map unchanged.
-pub after-no_job : (m : Map) (op : Op) (spare : Option SpareAt) → is_some spare ≡ takes_node op → job_of m op spare ≡ None → after m op ≡ m
+pub after-no_job : (m : Map) (op : Op) (spare : Option SpareAt) → is_some spare ≡ may_change op → job_of m op spare ≡ None → after m op ≡ m
 after-no_job m (Put k v) spare given is = put_no_job m k v (get m k) is
 after-no_job m (Take k) spare given is = go (get m k) spare refl given is
   where
@@ -129,33 +124,6 @@ content-there_and_back old mid new op reply job applies back =
 -- An operation without a job leaves the content unchanged.
 pub content-no_job : (old new : TableAt) (op : Op) (reply : Option ℕ) → Applies old new op reply None → content new ≡ content old
 content-no_job old new op reply applies = applies.content_is ∙ after-no_job (content old) op applies.spare applies.spare_is (sym applies.job_is)
-
--- The spare of a prepared operation belongs to the table. It still belongs to the table as long as
--- the spares are unchanged.
-given_owned : (old new : TableAt) (takes : Bool) (spare : Option SpareAt) → GivesFor old new takes spare → OwnsIf new spare
-given_owned old new true None gives = absurd gives
-given_owned old new true (Some spare) gives = gives.owned
-given_owned old new false None gives = tt
-given_owned old new false (Some spare) gives = absurd gives
-
-pub prepared_owned : (old new : TableAt) (op : Op) (pending : PendingAt) → Prepares old new op pending → OwnsIf new pending.spare
-prepared_owned old new op pending prepares = given_owned old new (takes_node op) pending.spare prepares.given
-
-pub still_owned_if : (old new : TableAt) (spare : Option SpareAt) → KeepsSpares old new → OwnsIf old spare → OwnsIf new spare
-still_owned_if old new None keeps owned = tt
-still_owned_if old new (Some spare) keeps owned = still_owned old new spare keeps owned
-
--- If `apply` does a put, the spares that are given out are unchanged.
-pub put_keeps : (old new : TableAt) (k v : ℕ) (reply : Option ℕ) (job : Option MapJob) → Applies old new (Put k v) reply job → KeepsSpares old new
-put_keeps old new k v reply job applies = go (get (content old) k) (subst (JobSpare old new) applies.job_is applies.spares)
-  where
-    go : (o : Option ℕ) → JobSpare old new (unput k o) → KeepsSpares old new
-    go None keeps = keeps
-    go (Some before) keeps = keeps
-
--- If `apply` does a get, the spares that are given out are unchanged.
-pub get_keeps : (old new : TableAt) (k : ℕ) (reply : Option ℕ) (job : Option MapJob) → Applies old new (Get k) reply job → KeepsSpares old new
-get_keeps old new k reply job applies = subst (JobSpare old new) applies.job_is applies.spares
 
 -- If `apply` does an operation that has a job, `ShowsAfter` holds for this job afterwards.
 pub applied_shows_after : (old new : TableAt) (op : Op) (reply : Option ℕ) (job : Option MapJob) → Applies old new op reply job → IfSome job (λ j. ShowsAfter j new)

@@ -6,7 +6,6 @@ pub mod ThereLemmas
 pub mod BelongLemmas
 pub mod ChangeLemmas
 pub mod DoesLemmas
-pub mod PlanLemmas
 pub mod SoundLemmas
 pub mod BucketAnswers
 pub mod BucketLemmas

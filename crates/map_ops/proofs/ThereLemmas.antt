@@ -11,7 +11,7 @@ use Rattle.list_steps.proofs.CursorLemmas.{there}
 use Rattle.split_key.proofs.SplitLemmas.{split_odd}
 use Rattle.map_ops.specs.TableAt.{map_of}
 use Rattle.map_ops.specs.Sound.{Belong, IsEvenDummy}
-use Rattle.map_ops.specs.Steps.{HasNode, HasGap, Stands, place_in}
+use Rattle.map_ops.specs.Lists.{HasNode, HasGap, Stands, place_in}
 use Rattle.map_ops.proofs.ContentLemmas.{rises-pairs, get-map_of, value_at-absent, value_at-there}
 
 -- A node at a key's position is regular.

@@ -1,61 +1,52 @@
 -- PROMISES each-change-has-an-inverse: Applies, TakesBack
--- The answer and the changes of each call.
-use Rattle.std.specs.Prelude.{◌≡◌, ◌≢◌, ◌<◌, ◌-◌, ◌^◌, ◌+◌, ℕ, Bool, true, false, Option, Some, None, is_some, if◌then◌else◌}
-use Rattle.map_ops.specs.Vocabulary.{Op, Refusal, after, get, key_of, set_at}
-use Rattle.txn_words.specs.declared.refusal.Refusal.TheVariants as refusals
+-- The answer and the changes of each call. What concerns only the list is defined in `Lists`.
+use Rattle.std.specs.Prelude.{◌≡◌, ◌≢◌, ◌+◌, ℕ, Bool, true, false, IfSome, Option, Some, None, is_some, if◌then◌else◌}
+use Rattle.map_ops.specs.Vocabulary.{Op, Refusal, after, get, key_of}
+use Rattle.node_list.specs.Nodes.{IsOut}
 use Rattle.txn_words.specs.Map.{reply_of}
 use Rattle.map_ops.specs.declared.act.Act.{Act}
 use Rattle.map_ops.specs.declared.act.Act.TheVariants.{Acted, Again as ActAgain}
 use Rattle.map_ops.specs.declared.act.Undo.{Undo}
 use Rattle.map_ops.specs.declared.act.Undo.TheVariants.{Undone, Again as UndoAgain}
 use Rattle.map_ops.specs.declared.job.MapJob.{MapJob}
-use Rattle.map_ops.specs.declared.job.MapJob.TheVariants.{Unput, Restore, Relink}
+use Rattle.map_ops.specs.declared.job.MapJob.TheVariants.{Relink}
+use Rattle.map_ops.specs.Lists as lists
 use Rattle.map_ops.specs.TableAt.{TableAt, Cursor, SpareAt, SweepOutcome, content, table_changes, last_of, linked_of, nodes_of}
-use Rattle.map_ops.specs.TableAt.{nodes_sought, spare_out, Owns, KeepsOthers, KeepsSpares, KeepsBuckets, KeepsNodes, KeepsTable, Follows}
+use Rattle.map_ops.specs.TableAt.{nodes_sought, KeepsSpares, KeepsBuckets, KeepsNodes, KeepsTable, Follows}
 use Rattle.map_ops.specs.TableAt.{IsPlaced, IsStart, SweepsNodes, cursor_changes, fits}
-use Rattle.map_ops.specs.Jobs.{PendingAt, takes_node, key_of_job, value_before, spare_of_job, job_of, IsDue}
+use Rattle.map_ops.specs.Jobs.{PendingAt, key_of_job, value_before, spare_of_job, job_of, IsDue}
+use Rattle.txn_words.specs.Owed.{may_change}
 use Rattle.map_ops.specs.Nodes.{IsUnlinking, JobWrites, OpWrites, WritesNothing}
 
 -- The spare, if there is one, belongs to the table.
 abbrev pub OwnsIf : TableAt → Option SpareAt → Type 0
-OwnsIf t None = Unit {0}
-OwnsIf t (Some spare) = Owns t spare
+OwnsIf t spare = IfSome spare (IsOut t.list)
 
 -- The spare, if there is one, is no longer given out. All other spares are unchanged.
 abbrev pub Spends : TableAt → TableAt → Option SpareAt → Type 0
-Spends old new None = KeepsSpares old new
-Spends old new (Some spare) = (spare_out new spare.place ≡ None) × KeepsOthers old new spare.place
+Spends old new spare = lists.Spends old.list new.list spare
 
--- A new spare is given out. It has the next stamp, and no spare was given out at its place before.
-pub record GivesSpare (old new : TableAt) (spare : SpareAt) : Type 0 where
-  pub room : last_of old < 2 ^ 64 - 2
-  pub stamp : spare.stamp ≡ last_of old + 1
-  pub last : last_of new ≡ last_of old + 1
-  pub fresh : spare_out old spare.place ≡ None
-  pub owned : Owns new spare
-  pub others : KeepsOthers old new spare.place
+-- If a job owns the operation's spare, the spare remains given out. If not, it is spent (`Spends`).
+abbrev pub SpendsFor : TableAt → TableAt → Option SpareAt → Option MapJob → Type 0
+SpendsFor old new spare job = lists.SpendsFor old.list new.list spare job
 
--- If the operation takes a node, it is given a new spare. If not, it is given none, and nothing has
--- changed.
+-- A new spare is given out.
+abbrev pub GivesSpare : TableAt → TableAt → SpareAt → Type 0
+GivesSpare old new spare = lists.GivesSpare old.list new.list spare
+
+-- If the operation takes a node, it is given a new spare. If not, it is given none.
 abbrev pub GivesFor : TableAt → TableAt → Bool → Option SpareAt → Type 0
-GivesFor old new true None = ⊥
-GivesFor old new true (Some spare) = GivesSpare old new spare
-GivesFor old new false None = new ≡ old
-GivesFor old new false (Some spare) = ⊥
+GivesFor old new takes spare = lists.GivesFor old.list new.list takes spare
+
+-- The reason why an operation is not prepared.
+abbrev pub IsRefused : TableAt → Op → Refusal → Type 0
+IsRefused t op refusal = lists.IsRefused t.list op refusal
 
 -- The operation is prepared: nothing but the spares and the last stamp has changed.
 pub record Prepares (old new : TableAt) (op : Op) (pending : PendingAt) : Type 0 where
-  pub op_is : pending.op ≡ op
-  pub given : GivesFor old new (takes_node op) pending.spare
+  pub on_list : lists.Prepares old.list new.list op pending
+  pub open on_list use *
   pub nodes : KeepsNodes old new
-
--- The reason why an operation that takes a node is not prepared. The reason is `StampsUsedUp`
--- exactly if the last stamp given is 2^64 - 2. Otherwise it is `NoMemory`: memory was refused, or
--- the list has no place left.
-abbrev pub IsRefused : TableAt → Op → Refusal → Type 0
-IsRefused t op refusals.StampsUsedUp = (takes_node op ≡ true) × (last_of t ≡ 2 ^ 64 - 2)
-IsRefused t op refusals.NoMemory = (takes_node op ≡ true) × (last_of t < 2 ^ 64 - 2)
-IsRefused t op refusal = ⊥
 
 -- A key was sought: marked nodes may have been unlinked, and the cursor fits.
 pub record Places (old new : TableAt) (key : ℕ) (cursor : Cursor) : Type 0 where
@@ -74,24 +65,14 @@ pub record SeeksNear (old new : TableAt) (key : ℕ) : Type 0 where
   pub nodes : nodes_of new ≡ nodes_sought old start key
   pub changes : IsUnlinking old.list new.list
 
--- If a job owns the operation's spare, the spare remains given out. If not, it is spent (`Spends`).
-abbrev pub SpendsFor : TableAt → TableAt → Option SpareAt → Option MapJob → Type 0
-SpendsFor old new spare (Some (Relink k before kept)) = KeepsSpares old new
-SpendsFor old new spare (Some (Unput k)) = Spends old new spare
-SpendsFor old new spare (Some (Restore k before)) = Spends old new spare
-SpendsFor old new spare None = Spends old new spare
-
 -- The operation is done. Its reply and its effect are those of the operation on the map, and there
--- is a job exactly if the operation is a change.
+-- is a job exactly if the operation is a change. The buckets are unchanged.
 pub record Does (old new : TableAt) (pending : PendingAt) (reply : Option ℕ)
     (job : Option MapJob) : Type 0 where
-  pub reply_is : reply ≡ reply_of (content old) pending.op
-  pub content_is : content new ≡ after (content old) pending.op
-  pub job_is : job ≡ job_of (content old) pending.op pending.spare
-  pub spares : SpendsFor old new pending.spare job
+  pub on_list : lists.Does old.list new.list pending reply job
+  pub open on_list use *
   pub buckets : KeepsBuckets old new
   pub linked : linked_of new ≡ linked_of old
-  pub last : last_of new ≡ last_of old
 
 -- A call of `act` at a cursor. If the cursor fits, the operation is done. If not, nothing has
 -- changed, and the operation is returned.
@@ -108,13 +89,12 @@ ActWrites old new pending (Acted reply job) =
 ActWrites old new pending (ActAgain back) = WritesNothing old.list new.list
 
 -- The change is taken back: the job's key now has the value that it had before the change, or no
--- value if it had none. Every other key is unchanged.
+-- value if it had none. Every other key and the buckets are unchanged.
 pub record TakesBack (old new : TableAt) (job : MapJob) : Type 0 where
-  pub content_is : content new ≡ set_at (content old) (key_of_job job) (value_before job)
-  pub spares : Spends old new (spare_of_job job)
+  pub on_list : lists.TakesBack old.list new.list job
+  pub open on_list use *
   pub buckets : KeepsBuckets old new
   pub linked : linked_of new ≡ linked_of old
-  pub last : last_of new ≡ last_of old
 
 -- A call of `undo` at a cursor. If the cursor fits, the change is taken back. If not, nothing has
 -- changed, and the job is returned.
@@ -135,17 +115,15 @@ pub record SeeksAndUndoes (old new : TableAt) (job : MapJob) : Type 0 where
 
 -- A spare, if there is one, is given back, and nothing else has changed.
 pub record GivesBack (old new : TableAt) (spare : Option SpareAt) : Type 0 where
+  pub on_list : lists.GivesBack old.list new.list spare
+  pub open on_list use *
   pub nodes : KeepsNodes old new
-  pub last : last_of new ≡ last_of old
-  pub spares : Spends old new spare
 
 -- The spares after `apply` has done an operation. If the operation's job owns a spare, this spare
 -- is newly given out (`GivesSpare`). All other spares are unchanged.
 abbrev pub JobSpare : TableAt → TableAt → Option MapJob → Type 0
 JobSpare old new (Some (Relink k before spare)) = GivesSpare old new spare
-JobSpare old new (Some (Unput k)) = KeepsSpares old new
-JobSpare old new (Some (Restore k before)) = KeepsSpares old new
-JobSpare old new None = KeepsSpares old new
+JobSpare old new job = KeepsSpares old new
 
 -- `apply` has done an operation. The reply and the effect are those of the operation on the map,
 -- and there is a job exactly if the operation is a change. The operation's key is sought, and the
@@ -156,11 +134,11 @@ pub record Applies (old new : TableAt) (op : Op) (reply : Option ℕ)
   pub reply_is : reply ≡ reply_of (content old) op
   pub content_is : content new ≡ after (content old) op
   pub job_is : job ≡ job_of (content old) op spare
-  pub spare_is : is_some spare ≡ takes_node op
+  pub spare_is : is_some spare ≡ may_change op
   pub spares : JobSpare old new job
   pub buckets : KeepsBuckets old new
   pub linked : linked_of new ≡ linked_of old
-  pub last : last_of new ≡ last_of old + (if takes_node op then 1 else 0)
+  pub last : last_of new ≡ last_of old + (if may_change op then 1 else 0)
   pub sought : TableAt
   pub near : SeeksNear old sought (key_of op)
   pub writes : OpWrites sought.list new.list op spare (get (content old) (key_of op))

@@ -1,21 +1,13 @@
 -- Operations that are prepared, and the jobs that take changes back.
 use Rattle.std.specs.Prelude.{◌≡◌, ℕ, Bool, true, false, IsSome, Option, Some, None, nat_eq, if◌then◌else◌}
-use Rattle.map_ops.specs.Vocabulary.{Get, Map, Op, Put, PutIf, Take, get, option_eq}
+use Rattle.map_ops.specs.Vocabulary.{Get, Map, Op, Put, PutIf, SpareAt, Take, get, option_eq}
 use Rattle.map_ops.specs.declared.job.MapJob.{MapJob}
 use Rattle.map_ops.specs.declared.job.MapJob.TheVariants.{Unput, Restore, Relink}
-use Rattle.map_ops.specs.TableAt.{SpareAt}
 
 -- An operation, and the spare that it owns, if it owns one.
 pub record PendingAt : Type 0 where
   pub op : Op
   pub spare : Option SpareAt
-
--- True if the operation takes a node.
-abbrev pub takes_node : Op → Bool
-takes_node (Put k v) = true
-takes_node (Take k) = true
-takes_node (Get k) = false
-takes_node (PutIf k expected v) = true
 
 -- The key of a job.
 abbrev pub key_of_job : MapJob → ℕ

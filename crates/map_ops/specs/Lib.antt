@@ -1,12 +1,12 @@
 pub mod Vocabulary
-pub mod TableAt
 pub mod Jobs
 pub mod Nodes
 pub mod Plans
+pub mod Lists
+pub mod TableAt
 pub mod Changes
 pub mod Buckets
 pub mod Sound
-pub mod Steps
 pub mod Laws
 -- The types of the lower layers that the table re-exports.
 pub use Rattle.bucket_table.specs.declared.answer.InitSeek

@@ -1,10 +1,12 @@
 -- PROMISES each-change-has-an-inverse: content, regular, Follows
 -- A table as contracts see it.
-use Rattle.std.specs.Prelude.{◌≡◌, ◌≢◌, ℕ, ◌<◌, ◌≤◌, ◌-◌, ◌%◌, ◌^◌, Bool, true, false, Option, Some, None, List, [], ◌∷◌, map, is_some}
+use Rattle.std.specs.Prelude.{◌≡◌, ℕ, ◌<◌, ◌≤◌, ◌-◌, ◌%◌, ◌^◌, Bool, true, false, Option, Some, None, List, [], ◌∷◌, map, is_some}
 use Rattle.std.specs.Prelude.{replicate, slice_index_or}
 use Rattle.map_ops.specs.Vocabulary.{AllByRecursion, Directory, Helper, Holding, Idle, IsHome, IsNearest, IsRising, Listing, Map, Seeking}
-use Rattle.map_ops.specs.Vocabulary.{cursor_fits, empty, first_dummy, fold, has_dummy, helper_of, insert, limit_of, out_at, pairs}
+use Rattle.map_ops.specs.Vocabulary.{cursor_fits, empty, first_dummy, has_dummy, helper_of, limit_of, out_at, pairs}
 use Rattle.map_ops.specs.Vocabulary.{range_with_len, regular_at, sought}
+use Rattle.map_ops.specs.Lists as lists
+pub use Rattle.map_ops.specs.Lists.{map_of}
 pub use Rattle.node_list.specs.Nodes.{NodeAt, SpareAt}
 use Rattle.node_list.specs.Follow as nodes
 use Rattle.node_list.specs.Sound as sound_lists
@@ -28,10 +30,6 @@ table_of list buckets = record { list = list; buckets = buckets }
 -- The linked nodes in order, the marked ones too.
 abbrev pub nodes_of : TableAt → List NodeAt
 nodes_of t = t.list.nodes
-
--- The map that has these pairs.
-abbrev pub map_of : List (ℕ × ℕ) → Map
-map_of rows = fold (λ m pair. insert m pair.0 pair.1) empty rows
 
 -- The key and the value of each linked, unmarked, regular node, in the list's order.
 abbrev pub regular : TableAt → List (ℕ × ℕ)
@@ -114,17 +112,9 @@ helper_cursor t helper = slice_index_or (cursors_of t) helper None
 abbrev pub spare_out : TableAt → ℕ → Option ℕ
 spare_out t place = out_at t.list place
 
--- The spare belongs to the table.
-abbrev pub Owns : TableAt → SpareAt → Type 0
-Owns t spare = spare_out t spare.place ≡ Some spare.stamp
-
--- The spares that are given out at all places but this one are unchanged.
-abbrev pub KeepsOthers : TableAt → TableAt → ℕ → Type 0
-KeepsOthers old new place = (other : ℕ) → other ≢ place → spare_out new other ≡ spare_out old other
-
 -- The spares that are given out are unchanged.
 abbrev pub KeepsSpares : TableAt → TableAt → Type 0
-KeepsSpares old new = (place : ℕ) → spare_out new place ≡ spare_out old place
+KeepsSpares old new = lists.KeepsSpares old.list new.list
 
 -- The change number that the cursor noted when it was placed.
 abbrev pub cursor_changes : Cursor → ℕ
@@ -206,6 +196,7 @@ pub record IsNew (t : TableAt) (largest helpers : ℕ) : Type 0 where
 -- The pairs, the buckets, the linked dummies and the last stamp are unchanged.
 pub record KeepsTable (old new : TableAt) : Type 0 where
   pub regular : regular new ≡ regular old
+  pub dummies : lists.KeepsDummies old.list new.list
   pub buckets : KeepsBuckets old new
   pub linked : linked_of new ≡ linked_of old
   pub last : last_of new ≡ last_of old

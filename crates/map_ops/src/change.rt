@@ -1,25 +1,22 @@
 //! The functions that do an operation or an inverse on the list of a table. Only `seek_key` reads
-//! the buckets, and no function here changes them. So every contract but that of `seek_key` holds
-//! for all tables with the given list, whatever their buckets. The proofs of these contracts need
-//! not mention buckets.
-ghost use Rattle.std.specs.Prelude.{◌≡◌, ◌≤◌, Option, Some, None, is_ok, nat_eq, IfOk, IfErr, OnErr};
+//! the buckets, and no function here changes them. So every contract but that of `seek_key` speaks
+//! of the list alone (`specs/Lists.antt`).
+ghost use Rattle.std.specs.Prelude.{◌≡◌, ◌≤◌, Some, None, is_ok, nat_eq, IfOk, IfErr, IfSome, OnErr};
 ghost use Rattle.std.specs.Option.{option_eq};
 ghost use Rattle.node_list.specs.Follow.{Follows};
 ghost use Rattle.node_list.specs.Nodes.{IsOut};
 ghost use Rattle.node_list.specs.Sound.{IsSound};
-ghost use Rattle.list_steps.specs.Content.{pairs};
 ghost use Rattle.list_steps.specs.Found.{IsPlaced, at_of, fits, pred_of};
 ghost use Rattle.split_key.specs.Sort.{regular_at};
-ghost use Rattle.bucket_table.specs.Directory.{Directory};
 ghost use Rattle.bucket_table.specs.Home.{IsHome};
 ghost use Rattle.txn_words.specs.Map.{get, key_of};
-ghost use Rattle.map_ops.specs.declared.pending.Plan.TheVariants.{PutIf as PutIfPlan, Take as TakePlan};
-ghost use Rattle.map_ops.specs.TableAt.{KeepsSpares, map_of, table_of};
-ghost use Rattle.map_ops.specs.Jobs.{IsDue, key_of_job, spare_of_job, unput};
+ghost use Rattle.map_ops.specs.declared.pending.Plan.TheVariants.{Put as PutPlan, PutIf as PutIfPlan, Take as TakePlan};
+ghost use Rattle.map_ops.specs.TableAt.{table_of};
+ghost use Rattle.map_ops.specs.Jobs.{IsDue, key_of_job, spare_of_job};
 ghost use Rattle.map_ops.specs.Plans.{pending_of};
-ghost use Rattle.map_ops.specs.Changes.{Does, GivesBack, IsRefused, OwnsIf, Places, Prepares, SeeksNear, Spends, TakesBack};
+ghost use Rattle.map_ops.specs.Changes.{Places, SeeksNear};
 ghost use Rattle.map_ops.specs.Nodes.{JobWrites, LinksNode, MarksNode, OpWrites, PutWrites, TakeWrites, WritesNode, node_for};
-ghost use Rattle.map_ops.specs.Steps.{GivesOne, HasNode, HasGap, IsLacking, Sets, Stands, place_in};
+ghost use Rattle.map_ops.specs.Lists.{Does, GivesBack, GivesOne, HasNode, HasGap, IsLacking, IsRefused, KeepsSpares, Prepares, Sets, Spends, Stands, TakesBack, content, place_in};
 ghost use Rattle.map_ops.specs.Sound.{Belong};
 
 use crate::job::MapJob;
@@ -33,10 +30,8 @@ use txn_words::{Op, Refusal, Reply};
 /// Takes a new spare from the list.
 fn give_spare(list: &mut NodeList) -> Result<Unfilled, Refusal>
     requires { IsSound list.old }
-    ensures ok { IfOk result (λ spare. (buckets : Directory)
-        → GivesOne (table_of list.old buckets) (table_of list.new buckets) spare) }
-    ensures err { IfErr result (λ refusal. (buckets : Directory)
-        → IsLacking (table_of list.old buckets) refusal) }
+    ensures ok { IfOk result (GivesOne list.old list.new) }
+    ensures err { IfErr result (IsLacking list.old) }
     ensures unchanged { OnErr result (list.new ≡ list.old) }
     ensures follows { Follows list.old list.new }
 {
@@ -51,28 +46,25 @@ fn give_spare(list: &mut NodeList) -> Result<Unfilled, Refusal>
 #[inline(always)]
 pub(crate) fn plan(list: &mut NodeList, op: Op) -> Result<Plan, Refusal>
     requires { IsSound list.old }
-    ensures ok { IfOk result (λ plan. (buckets : Directory)
-        → Prepares (table_of list.old buckets) (table_of list.new buckets) op (pending_of plan)) }
-    ensures err { IfErr result (λ refusal. (buckets : Directory)
-        → IsRefused (table_of list.old buckets) op refusal) }
+    ensures ok { IfOk result (λ plan. Prepares list.old list.new op (pending_of plan)) }
+    ensures err { IfErr result (IsRefused list.old op) }
     ensures unchanged { OnErr result (list.new ≡ list.old) }
     ensures follows { Follows list.old list.new }
 {
-    let key = Key::new(op.key());
     match op {
-        Op::Put(_, value) => {
+        Op::Put(key, value) => {
             let spare = give_spare(list)?;
-            Ok(Plan::Put(key, value, spare))
+            Ok(Plan::Put(Key::new(key), value, spare))
         }
-        Op::Take(_) => {
+        Op::Take(key) => {
             let spare = give_spare(list)?;
-            Ok(Plan::Take(key, spare))
+            Ok(Plan::Take(Key::new(key), spare))
         }
-        Op::PutIf(_, expected, value) => {
+        Op::PutIf(key, expected, value) => {
             let spare = give_spare(list)?;
-            Ok(Plan::PutIf(key, expected, value, spare))
+            Ok(Plan::PutIf(Key::new(key), expected, value, spare))
         }
-        Op::Get(_) => Ok(Plan::Get(key)),
+        Op::Get(key) => Ok(Plan::Get(Key::new(key))),
     }
 }
 
@@ -114,10 +106,8 @@ fn link_key(list: &mut NodeList, pred: NodeRef, key: Key, value: u64, spare: Unf
     requires belong { Belong list.old.nodes }
     requires room { HasGap list.old key pred }
     requires owned { IsOut list.old spare }
-    ensures sets { (buckets : Directory)
-        → Sets (table_of list.old buckets) (table_of list.new buckets) key (Some value) }
-    ensures spares { (buckets : Directory)
-        → Spends (table_of list.old buckets) (table_of list.new buckets) (Some spare) }
+    ensures sets { Sets list.old list.new key (Some value) }
+    ensures spares { Spends list.old list.new (Some spare) }
     ensures writes { LinksNode list.old list.new (node_for key value spare) }
     ensures belong { Belong list.new.nodes }
     ensures follows { Follows list.old list.new }
@@ -132,11 +122,9 @@ fn swap_key(list: &mut NodeList, node: NodeRef, key: Key, value: u64) -> u64
     requires sound { IsSound list.old }
     requires belong { Belong list.old.nodes }
     requires there { HasNode list.old key node }
-    ensures was { get (map_of (pairs list.old.nodes)) key ≡ Some result }
-    ensures sets { (buckets : Directory)
-        → Sets (table_of list.old buckets) (table_of list.new buckets) key (Some value) }
-    ensures spares { (buckets : Directory)
-        → KeepsSpares (table_of list.old buckets) (table_of list.new buckets) }
+    ensures was { get (content list.old) key ≡ Some result }
+    ensures sets { Sets list.old list.new key (Some value) }
+    ensures spares { KeepsSpares list.old list.new }
     ensures writes { WritesNode list.old list.new key value }
     ensures belong { Belong list.new.nodes }
     ensures follows { Follows list.old list.new }
@@ -149,11 +137,9 @@ fn mark_key(list: &mut NodeList, node: NodeRef, key: Key) -> u64
     requires sound { IsSound list.old }
     requires belong { Belong list.old.nodes }
     requires there { HasNode list.old key node }
-    ensures was { get (map_of (pairs list.old.nodes)) key ≡ Some result }
-    ensures sets { (buckets : Directory)
-        → Sets (table_of list.old buckets) (table_of list.new buckets) key None }
-    ensures spares { (buckets : Directory)
-        → KeepsSpares (table_of list.old buckets) (table_of list.new buckets) }
+    ensures was { get (content list.old) key ≡ Some result }
+    ensures sets { Sets list.old list.new key None }
+    ensures spares { KeepsSpares list.old list.new }
     ensures writes { MarksNode list.old list.new key }
     ensures belong { Belong list.new.nodes }
     ensures follows { Follows list.old list.new }
@@ -164,40 +150,20 @@ fn mark_key(list: &mut NodeList, node: NodeRef, key: Key) -> u64
 /// Gives a spare back to the list.
 fn give_back(list: &mut NodeList, spare: Unfilled)
     requires { IsOut list.old spare }
-    ensures back { (buckets : Directory)
-        → GivesBack (table_of list.old buckets) (table_of list.new buckets) (Some spare) }
+    ensures back { GivesBack list.old list.new (Some spare) }
     ensures follows { Follows list.old list.new }
 {
     list.give_back(spare.into_spare());
 }
 
-/// Gives up an operation: its spare, if it has one, goes back to the list.
-pub(crate) fn give_up(list: &mut NodeList, plan: Plan)
-    requires { (buckets : Directory) → OwnsIf (table_of list.old buckets) (pending_of plan).spare }
-    ensures back { (buckets : Directory)
-        → GivesBack (table_of list.old buckets) (table_of list.new buckets)
-        (pending_of plan).spare }
+/// Gives a spare back to the list, if there is one.
+pub(crate) fn give_up(list: &mut NodeList, spare: Option<Unfilled>)
+    requires { IfSome spare (IsOut list.old) }
+    ensures back { GivesBack list.old list.new spare }
     ensures follows { Follows list.old list.new }
 {
-    match plan {
-        Plan::Put(_, _, spare) => give_back(list, spare),
-        Plan::Take(_, spare) => give_back(list, spare),
-        Plan::PutIf(_, _, _, spare) => give_back(list, spare),
-        Plan::Get(_) => {}
-    }
-}
-
-/// Gives up a job: its spare, if it has one, goes back to the list.
-pub(crate) fn give_up_job(list: &mut NodeList, job: MapJob)
-    requires { (buckets : Directory) → OwnsIf (table_of list.old buckets) (spare_of_job job) }
-    ensures back { (buckets : Directory)
-        → GivesBack (table_of list.old buckets) (table_of list.new buckets) (spare_of_job job) }
-    ensures follows { Follows list.old list.new }
-{
-    match job {
-        MapJob::Relink(_, _, spare) => give_back(list, spare),
-        MapJob::Unput(_) => {}
-        MapJob::Restore(_, _) => {}
+    if let Some(spare) = spare {
+        give_back(list, spare);
     }
 }
 
@@ -222,12 +188,8 @@ fn put_key(
     requires belong { Belong list.old.nodes }
     requires stands { Stands list.old key pred there }
     requires owned { IsOut list.old spare }
-    ensures was { get (map_of (pairs list.old.nodes)) key ≡ result.0 }
-    ensures job { result.1 ≡ unput key result.0 }
-    ensures sets { (buckets : Directory)
-        → Sets (table_of list.old buckets) (table_of list.new buckets) key (Some value) }
-    ensures spares { (buckets : Directory)
-        → Spends (table_of list.old buckets) (table_of list.new buckets) (Some spare) }
+    ensures does { Does list.old list.new (pending_of (PutPlan key value spare))
+        result.0 result.1 }
     ensures writes { PutWrites list.old list.new key value (Some spare) result.0 }
     ensures belong { Belong list.new.nodes }
     ensures follows { Follows list.old list.new }
@@ -260,12 +222,11 @@ fn put_if_key(
     requires belong { Belong list.old.nodes }
     requires stands { Stands list.old key pred there }
     requires owned { IsOut list.old spare }
-    ensures does { (buckets : Directory)
-        → Does (table_of list.old buckets) (table_of list.new buckets)
-        (pending_of (PutIfPlan key expected value spare)) result.0 result.1 }
+    ensures does { Does list.old list.new (pending_of (PutIfPlan key expected value spare))
+        result.0 result.1 }
     ensures writes { OpWrites list.old list.new
         (pending_of (PutIfPlan key expected value spare)).op (Some spare)
-        (get (map_of (pairs list.old.nodes)) key) }
+        (get (content list.old) key) }
     ensures belong { Belong list.new.nodes }
     ensures follows { Follows list.old list.new }
 {
@@ -294,10 +255,8 @@ fn take_key(
     requires belong { Belong list.old.nodes }
     requires stands { Stands list.old key pred there }
     requires owned { IsOut list.old spare }
-    ensures does { (buckets : Directory)
-        → Does (table_of list.old buckets) (table_of list.new buckets)
-        (pending_of (TakePlan key spare)) result.0 result.1 }
-    ensures writes { TakeWrites list.old list.new key (get (map_of (pairs list.old.nodes)) key) }
+    ensures does { Does list.old list.new (pending_of (TakePlan key spare)) result.0 result.1 }
+    ensures writes { TakeWrites list.old list.new key (get (content list.old) key) }
     ensures belong { Belong list.new.nodes }
     ensures follows { Follows list.old list.new }
 {
@@ -326,13 +285,10 @@ pub(crate) fn change(
     requires sound { IsSound list.old }
     requires belong { Belong list.old.nodes }
     requires stands { Stands list.old (key_of (pending_of plan).op) pred there }
-    requires owned { (buckets : Directory)
-        → OwnsIf (table_of list.old buckets) (pending_of plan).spare }
-    ensures does { (buckets : Directory)
-        → Does (table_of list.old buckets) (table_of list.new buckets) (pending_of plan)
-        result.0 result.1 }
+    requires owned { IfSome (pending_of plan).spare (IsOut list.old) }
+    ensures does { Does list.old list.new (pending_of plan) result.0 result.1 }
     ensures writes { OpWrites list.old list.new (pending_of plan).op (pending_of plan).spare
-        (get (map_of (pairs list.old.nodes)) (key_of (pending_of plan).op)) }
+        (get (content list.old) (key_of (pending_of plan).op)) }
     ensures belong { Belong list.new.nodes }
     ensures follows { Follows list.old list.new }
 {
@@ -366,10 +322,9 @@ pub(crate) fn restore(list: &mut NodeList, job: MapJob, pred: NodeRef, there: Op
     requires sound { IsSound list.old }
     requires belong { Belong list.old.nodes }
     requires stands { Stands list.old (key_of_job job) pred there }
-    requires due { IsDue (map_of (pairs list.old.nodes)) job }
-    requires owned { (buckets : Directory) → OwnsIf (table_of list.old buckets) (spare_of_job job) }
-    ensures back { (buckets : Directory)
-        → TakesBack (table_of list.old buckets) (table_of list.new buckets) job }
+    requires due { IsDue (content list.old) job }
+    requires owned { IfSome (spare_of_job job) (IsOut list.old) }
+    ensures back { TakesBack list.old list.new job }
     ensures writes { JobWrites list.old list.new job }
     ensures belong { Belong list.new.nodes }
     ensures follows { Follows list.old list.new }

@@ -20,7 +20,7 @@ pub enum MapJob {
 }
 
 impl MapJob {
-    ghost use Rattle.map_ops.specs.Jobs.{key_of_job};
+    ghost use Rattle.map_ops.specs.Jobs.{key_of_job, spare_of_job};
 
     /// The key of the change.
     pub fn key(&self) -> Key
@@ -30,6 +30,17 @@ impl MapJob {
             MapJob::Unput(key) => *key,
             MapJob::Restore(key, _) => *key,
             MapJob::Relink(key, _, _) => *key,
+        }
+    }
+
+    /// The spare of the job, if it owns one.
+    pub(crate) fn into_spare(self) -> Option<Unfilled>
+        ensures { result ≡ spare_of_job self }
+    {
+        match self {
+            MapJob::Relink(_, _, spare) => Some(spare),
+            MapJob::Unput(_) => None,
+            MapJob::Restore(_, _) => None,
         }
     }
 }

@@ -38,7 +38,7 @@ impl Model for Pending {
 
 impl Pending {
     ghost use Rattle.txn_words.specs.Map.{key_of};
-    ghost use Rattle.map_ops.specs.Jobs.{takes_node};
+    ghost use Rattle.txn_words.specs.Owed.{may_change};
     ghost use Rattle.map_ops.specs.Plans.{pending_of};
 
     pub(crate) fn new(plan: Plan) -> Pending
@@ -53,10 +53,22 @@ impl Pending {
         self.plan
     }
 
+    /// The spare of the operation, if it owns one.
+    pub(crate) fn into_spare(self) -> Option<Unfilled>
+        ensures { result ≡ self.spare }
+    {
+        match self.plan {
+            Plan::Put(_, _, spare) => Some(spare),
+            Plan::Take(_, spare) => Some(spare),
+            Plan::PutIf(_, _, _, spare) => Some(spare),
+            Plan::Get(_) => None,
+        }
+    }
+
     /// The operation. It has a spare exactly if it is not a get.
     pub fn op(&self) -> Op
         ensures op { result ≡ self.now.op }
-        ensures spare { is_some self.now.spare ≡ takes_node result }
+        ensures spare { is_some self.now.spare ≡ may_change result }
     {
         match &self.plan {
             Plan::Put(key, value, _) => Op::Put(key.number(), *value),

@@ -13,7 +13,7 @@ ghost use Rattle.bucket_table.specs.Home.{IsHome};
 ghost use Rattle.list_steps.specs.Steps.{IsBeforeMarks};
 
 use crate::act::{Act, Undo};
-use crate::change::{change, find, give_up, give_up_job, plan, restore, seek_key};
+use crate::change::{change, find, give_up, plan, restore, seek_key};
 use crate::job::MapJob;
 use crate::listing::{map_of, pairs_of};
 use crate::pending::Pending;
@@ -156,7 +156,7 @@ impl Table {
         ensures back { GivesBack self.old self.new pending.spare }
         ensures follows { Follows self.old self.new }
     {
-        give_up(&mut self.list, pending.into_plan());
+        give_up(&mut self.list, pending.into_spare());
     }
 
     /// Seeks the key of a job, just as `place` seeks the key of an operation, and at the same cost.
@@ -201,7 +201,7 @@ impl Table {
         ensures back { GivesBack self.old self.new (spare_of_job job) }
         ensures follows { Follows self.old self.new }
     {
-        give_up_job(&mut self.list, job);
+        give_up(&mut self.list, job.into_spare());
     }
 
     /// Does an operation in one call. Its reply and its effect are those of the same operation on a

@@ -95,10 +95,10 @@ noted_level n op x standing kept log m within right =
     at true is =
         ap (λ b. rolled_back (after m op) (take (cond b (standing + 1) standing - get_or kept n 0) (cond b ((key_of op, reply_of m op) ∷ log) log))) is
         ∙ ap (λ k. rolled_back (after m op) (take k ((key_of op, reply_of m op) ∷ log))) one_more
-        ∙ ap (λ (n : Map). rolled_back n (take (standing - get_or kept n 0) log)) (set_at-after m op)
+        ∙ ap (λ (z : Map). rolled_back z (take (standing - get_or kept n 0) log)) (set_at-after m op)
     at false is =
         ap (λ b. rolled_back (after m op) (take (cond b (standing + 1) standing - get_or kept n 0) (cond b ((key_of op, reply_of m op) ∷ log) log))) is
-        ∙ ap (λ (n : Map). rolled_back n (take (standing - get_or kept n 0) log)) (after_unchanged m op (sym (changes-reply m op) ∙ is))
+        ∙ ap (λ (z : Map). rolled_back z (take (standing - get_or kept n 0) log)) (after_unchanged m op (sym (changes-reply m op) ∙ is))
 
 undone_level : (standing kept : ℕ) (log jobs : List (ℕ × Option ℕ)) (job : ℕ × Option ℕ) (m : Map) → kept < standing → log ≡ job ∷ jobs
     → rolled_back (set_at m job.0 job.1) (take (standing - 1 - kept) jobs) ≡ rolled_back m (take (standing - kept) log)

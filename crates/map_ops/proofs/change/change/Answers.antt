@@ -1,27 +1,23 @@
-use Rattle.std.proofs.Common.{sym}
-use Rattle.map_ops.proofs.Laws.{no_buckets}
 use Rattle.map_ops.proofs.ThereLemmas.{node_linked}
-use Rattle.map_ops.proofs.DoesLemmas.{does_put}
 use Rattle.map_ops.proofs.change.change.Goals as goal
 
 pub put_key-requires-clause-owned : goal.put_key-requires-clause-owned
-put_key-requires-clause-owned c = rw c.in-Put.is at (c.requires.owned no_buckets)
+put_key-requires-clause-owned c = rw c.in-Put.is at c.requires.owned
 
 pub put_if_key-requires-clause-owned : goal.put_if_key-requires-clause-owned
-put_if_key-requires-clause-owned c = rw c.in-PutIf.is at (c.requires.owned no_buckets)
+put_if_key-requires-clause-owned c = rw c.in-PutIf.is at c.requires.owned
 
 pub take_key-requires-clause-owned : goal.take_key-requires-clause-owned
-take_key-requires-clause-owned c = rw c.in-Take.is at (c.requires.owned no_buckets)
+take_key-requires-clause-owned c = rw c.in-Take.is at c.requires.owned
 
 pub returns-in-Put-clause-does : goal.returns-in-Put-clause-does
-returns-in-Put-clause-does c = λ buckets.
-    rw c.in-Put.is (does_put c.args.list.now c.put_key.new.list buckets c.in-Put.key _ (sym c.put_key.ensures.was) c.in-Put.spare c.in-Put.value _ c.put_key.ensures.job (c.put_key.ensures.sets buckets) (c.put_key.ensures.spares buckets))
+returns-in-Put-clause-does c = rw c.in-Put.is c.put_key.ensures.does
 
 pub returns-in-PutIf-clause-does : goal.returns-in-PutIf-clause-does
-returns-in-PutIf-clause-does c = λ buckets. rw c.in-PutIf.is (c.put_if_key.ensures.does buckets)
+returns-in-PutIf-clause-does c = rw c.in-PutIf.is c.put_if_key.ensures.does
 
 pub returns-in-Take-clause-does : goal.returns-in-Take-clause-does
-returns-in-Take-clause-does c = λ buckets. rw c.in-Take.is (c.take_key.ensures.does buckets)
+returns-in-Take-clause-does c = rw c.in-Take.is c.take_key.ensures.does
 
 pub node-requires : goal.node-requires
 node-requires c =

@@ -1,8 +1,7 @@
 use Rattle.std.proofs.Common.{ℕ, ◌∙◌, ap, refl, subst, Some, false}
 use Rattle.map_ops.specs.Vocabulary.{NodeAt, Regular, SortKey, SpareAt}
 use Rattle.node_list.specs.Nodes.{filled}
-use Rattle.map_ops.specs.TableAt.{table_of}
-use Rattle.map_ops.specs.Steps.{Sets}
+use Rattle.map_ops.specs.Lists.{Sets}
 use Rattle.map_ops.proofs.ChangeLemmas.{links_sets, links_node, links_belong}
 use Rattle.map_ops.proofs.change.link_key.Goals as goal
 
@@ -16,10 +15,10 @@ link_at-requires-clause-vacant c =
     rw at c.requires.room.vacant
 
 pub returns-clause-sets : goal.returns-clause-sets
-returns-clause-sets c = λ buckets.
-    subst (λ (v : ℕ). Sets (table_of c.args.list.now buckets) (table_of c.link_at.new.list buckets) c.args.key (Some v)) (ap (λ (s : SpareAt). s.value) c.fill.ensures)
+returns-clause-sets c =
+    subst (λ (v : ℕ). Sets c.args.list.now c.link_at.new.list c.args.key (Some v)) (ap (λ (s : SpareAt). s.value) c.fill.ensures)
     (links_sets c.args.list.now c.link_at.new.list c.args.key c.requires.sound (c.link_at.ensures.follows.sound c.requires.sound) c.requires.belong
-    (filled c.fill.new.self) (ap (λ (s : SpareAt). s.kind) c.fill.ensures) refl (ap (λ (s : SpareAt). s.at) c.fill.ensures ∙ c.regular.ensures.value) _ c.requires.room c.link_at.ensures.links buckets)
+    (filled c.fill.new.self) (ap (λ (s : SpareAt). s.kind) c.fill.ensures) refl (ap (λ (s : SpareAt). s.at) c.fill.ensures ∙ c.regular.ensures.value) _ c.requires.room c.link_at.ensures.links)
 
 pub returns-clause-belong : goal.returns-clause-belong
 returns-clause-belong c =

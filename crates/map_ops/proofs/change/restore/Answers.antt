@@ -1,6 +1,4 @@
-use Rattle.map_ops.proofs.Laws.{no_buckets}
 use Rattle.map_ops.proofs.ThereLemmas.{occupied, vacant}
-use Rattle.map_ops.proofs.DoesLemmas.{takes_back}
 use Rattle.map_ops.proofs.change.restore.Goals as goal
 
 pub mark_key-requires-clause-there : goal.mark_key-requires-clause-there
@@ -22,16 +20,16 @@ link_key-requires-clause-room c =
     rw c.place_in-place.ensures (vacant c.args.list.now _ _ c.args.there stands due)
 
 pub link_key-requires-clause-owned : goal.link_key-requires-clause-owned
-link_key-requires-clause-owned c = rw c.in-Relink.is at (c.requires.owned no_buckets)
+link_key-requires-clause-owned c = rw c.in-Relink.is at c.requires.owned
 
 pub returns-in-Unput-clause-back : goal.returns-in-Unput-clause-back
-returns-in-Unput-clause-back c = λ buckets. rw c.in-Unput.is (takes_back c.args.list.now c.mark_key.new.list buckets _ (c.mark_key.ensures.sets buckets) (c.mark_key.ensures.spares buckets))
+returns-in-Unput-clause-back c = rw c.in-Unput.is (record { sets = c.mark_key.ensures.sets; spares = c.mark_key.ensures.spares })
 
 pub returns-in-Restore-clause-back : goal.returns-in-Restore-clause-back
-returns-in-Restore-clause-back c = λ buckets. rw c.in-Restore.is (takes_back c.args.list.now c.swap_key.new.list buckets _ (c.swap_key.ensures.sets buckets) (c.swap_key.ensures.spares buckets))
+returns-in-Restore-clause-back c = rw c.in-Restore.is (record { sets = c.swap_key.ensures.sets; spares = c.swap_key.ensures.spares })
 
 pub returns-in-Relink-clause-back : goal.returns-in-Relink-clause-back
-returns-in-Relink-clause-back c = λ buckets. rw c.in-Relink.is (takes_back c.args.list.now c.link_key.new.list buckets _ (c.link_key.ensures.sets buckets) (c.link_key.ensures.spares buckets))
+returns-in-Relink-clause-back c = rw c.in-Relink.is (record { sets = c.link_key.ensures.sets; spares = c.link_key.ensures.spares })
 
 pub returns-in-Unput-clause-writes : goal.returns-in-Unput-clause-writes
 returns-in-Unput-clause-writes c = rw c.in-Unput.is c.mark_key.ensures.writes

@@ -2,7 +2,7 @@ use Rattle.std.proofs.Common.{ℕ, ◌%◌, ◌∙◌, ap, sym, subst}
 use Rattle.map_ops.specs.Vocabulary.{IsNearest, SortKey, sought}
 use Rattle.map_ops.specs.Sound.{Belong}
 use Rattle.map_ops.proofs.BelongLemmas.{belong_sought}
-use Rattle.map_ops.proofs.DoesLemmas.{places}
+use Rattle.map_ops.proofs.KeepLemmas.{places}
 use Rattle.map_ops.proofs.change.seek_key.Goals as goal
 
 pub returns-clause-places : goal.returns-clause-places

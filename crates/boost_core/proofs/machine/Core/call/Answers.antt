@@ -1,5 +1,5 @@
 use Rattle.std.proofs.Common.{◌≡◌, ◌<◌, ◌++◌, inr, List, refl, sym, ap, subst, ◌∙◌, arith, vec_len, vec_capacity, sum_by, option_to_list}
-use Rattle.boost_core.proofs.Vocabulary.{Entry, owed_of, Goes, reach, reserved_by, world_of, state_of, World, reserved, NoMemory}
+use Rattle.boost_core.proofs.Vocabulary.{Entry, claim_in, step_by, owed_of, Goes, reach, reserved_by, world_of, state_of, World, reserved, NoMemory}
 use Rattle.boost_core.proofs.Numbers.{noted_then, began_bound, committed_bound, when_ok, when_err}
 use Rattle.boost_core.proofs.SideRefusals.{free_at}
 use Rattle.boost_core.proofs.Moves.{none_of}
@@ -13,88 +13,97 @@ use Rattle.txn_words.specs.declared.answer.Answer.TheVariants as answers
 use Rattle.boost_core.proofs.machine.Core.call.Goals as goal
 
 pub overflow_add-self-inside : goal.overflow_add-self-inside
-overflow_add-self-inside c = omega (arith, reserved_least c.args.claim c.args.step, reserved_few c.args.step, c.entry_room.ensures, c.self.invariant.owes, c.self.invariant.room, c.self.inside.history.ok, c.self.inside.history.small)
+overflow_add-self-inside c = omega (arith, reserved_least c.claim.result c.by-whole.result, reserved_few c.by-whole.result, c.entry_room-room.ensures, c.self.invariant.owes, c.self.invariant.room, c.self.inside.history.ok, c.self.inside.history.small)
 
 pub answer-answer-requires : goal.answer-answer-requires
 answer-answer-requires c =
-    let free = free_at _ _ c.self.invariant.tells c.self.view_is c.args.caller c.args.step c.requires.owner _ c.refusal.ensures c.in_default.is c.index_mut-session.result.now c.index_mut-session.ensures.value in
+    let free = free_at _ _ c.self.invariant.tells c.self.view_is c.args.caller c.args.step _ c.refusal.ensures c.in_default.is c.index_mut-session.result.now c.index_mut-session.ensures.value in
     rw (c.from-stripes.ensures ∙ c.stripes.ensures.value)
-    (takes _ c.self.invariant.tells c.args.caller c.index_mut-session.result.now free.1 c.args.step c.requires.owner free.0 (few_callers c.self.inside.limits.callers c.self.inside.limits.stripes c.self.inside.limits.buckets c.stripes.ensures.limits) (some_stripe c.self.inside.limits.callers c.self.inside.limits.stripes c.self.inside.limits.buckets c.stripes.ensures.limits)
+    (takes _ c.self.invariant.tells c.args.caller c.index_mut-session.result.now free.1 c.args.step free.0 (few_callers c.self.inside.limits.callers c.self.inside.limits.stripes c.self.inside.limits.buckets c.stripes.ensures.limits) (some_stripe c.self.inside.limits.callers c.self.inside.limits.stripes c.self.inside.limits.buckets c.stripes.ensures.limits)
     (omega (arith, began_bound _ c.self.invariant.tells, c.self.inside.history.ok, c.self.inside.history.small)) (omega (arith, committed_bound _ c.self.invariant.tells, c.self.inside.history.ok, c.self.inside.history.small)))
 
 pub add-self-inside-requires : goal.add-self-inside-requires
 add-self-inside-requires c =
-    let free = free_at _ _ c.self.invariant.tells c.self.view_is c.args.caller c.args.step c.requires.owner _ c.refusal.ensures c.in_default.is c.index_mut-session.result.now c.index_mut-session.ensures.value in
-    let is : CalledBy c.args.claim (world_of c.self.inside.limits c.self.inside.history c.self.inside.counts c.self.inside.table c.self.inside.sessions c.self.inside.locks c.self.inside.placed c.self.inside.words) c.args.caller c.index_mut-session.result.now c.args.step c.answer-answer.result c.answer-answer.new.self c.answer-answer.new.table c.answer-answer.new.locks =
-    called _ c.self.invariant.tells c.index_mut-session.result.now (reach c.answer-answer.new.self c.answer-answer.new.table c.answer-answer.new.locks) c.answer-answer.ensures.placed c.args.claim c.args.caller c.args.step c.requires.owner free.1 free.0 (some_stripe c.self.inside.limits.callers c.self.inside.limits.stripes c.self.inside.limits.buckets c.stripes.ensures.limits) (claims_of c.args.claim _ _ c.args.step c.self.view_is c.requires.claim) c.answer-answer.result c.from-stripes.result (c.from-stripes.ensures ∙ c.stripes.ensures.value) c.answer-answer.ensures.does in
+    let free = free_at _ _ c.self.invariant.tells c.self.view_is c.args.caller c.args.step _ c.refusal.ensures c.in_default.is c.index_mut-session.result.now c.index_mut-session.ensures.value in
+    let whole = step_by c.args.caller c.args.step in
+    let is : CalledBy (claim_in c.args.step) (world_of c.self.inside.limits c.self.inside.history c.self.inside.counts c.self.inside.table c.self.inside.sessions c.self.inside.locks c.self.inside.placed c.self.inside.words) c.args.caller c.index_mut-session.result.now whole c.answer-answer.result c.answer-answer.new.self c.answer-answer.new.table c.answer-answer.new.locks =
+    called _ c.self.invariant.tells c.index_mut-session.result.now (reach c.answer-answer.new.self c.answer-answer.new.table c.answer-answer.new.locks) c.answer-answer.ensures.placed c.args.caller c.args.step free.1 free.0 (some_stripe c.self.inside.limits.callers c.self.inside.limits.stripes c.self.inside.limits.buckets c.stripes.ensures.limits) (claims_of (claim_in c.args.step) _ _ whole c.self.view_is c.requires) c.answer-answer.result (rw (c.from-stripes.ensures ∙ c.stripes.ensures.value) at c.answer-answer.ensures.does) in
+    let entry = rw c.by-whole.ensures at c.entry_of-entry.ensures in
+    let asked = rw (c.claim.ensures, c.by-whole.ensures) at c.entry_room-room.ensures in
     let room = when_ok c.reserve.result c.if-is_err.ensures.value c.reserve.ensures.ok in
-    can_add _ c.self.invariant.tells c.args.caller c.index_mut-session.result.now c.answer-answer.new.self free.1 c.args.step c.answer-answer.result c.answer-answer.new.table c.answer-answer.new.locks is c.entry_of-entry.result c.entry_of-entry.ensures (vec_len c.reserve.new.self) (vec_capacity c.reserve.new.self) c.self.inside.owed c.self.invariant.owes (omega (arith, room, c.entry_room.ensures)) (omega (arith, c.reserve.new.self.ok, c.reserve.new.self.small)) (few_callers c.self.inside.limits.callers c.self.inside.limits.stripes c.self.inside.limits.buckets c.stripes.ensures.limits)
+    can_add _ c.self.invariant.tells c.args.caller c.index_mut-session.result.now c.answer-answer.new.self free.1 whole c.answer-answer.result c.answer-answer.new.table c.answer-answer.new.locks is c.entry_of-entry.result entry (vec_len c.reserve.new.self) (vec_capacity c.reserve.new.self) c.self.inside.owed c.self.invariant.owes (omega (arith, room, asked)) (omega (arith, c.reserve.new.self.ok, c.reserve.new.self.small)) (few_callers c.self.inside.limits.callers c.self.inside.limits.stripes c.self.inside.limits.buckets c.stripes.ensures.limits)
 
 pub invariant_of-self-2 : goal.invariant_of-self-2
 invariant_of-self-2 c =
-    let free = free_at _ _ c.self.invariant.tells c.self.view_is c.args.caller c.args.step c.requires.owner _ c.refusal.ensures c.in_default.is c.index_mut-session.result.now c.index_mut-session.ensures.value in
-    let is : CalledBy c.args.claim (world_of c.self.inside.limits c.self.inside.history c.self.inside.counts c.self.inside.table c.self.inside.sessions c.self.inside.locks c.self.inside.placed c.self.inside.words) c.args.caller c.index_mut-session.result.now c.args.step c.answer-answer.result c.answer-answer.new.self c.answer-answer.new.table c.answer-answer.new.locks =
-    called _ c.self.invariant.tells c.index_mut-session.result.now (reach c.answer-answer.new.self c.answer-answer.new.table c.answer-answer.new.locks) c.answer-answer.ensures.placed c.args.claim c.args.caller c.args.step c.requires.owner free.1 free.0 (some_stripe c.self.inside.limits.callers c.self.inside.limits.stripes c.self.inside.limits.buckets c.stripes.ensures.limits) (claims_of c.args.claim _ _ c.args.step c.self.view_is c.requires.claim) c.answer-answer.result c.from-stripes.result (c.from-stripes.ensures ∙ c.stripes.ensures.value) c.answer-answer.ensures.does in
+    let free = free_at _ _ c.self.invariant.tells c.self.view_is c.args.caller c.args.step _ c.refusal.ensures c.in_default.is c.index_mut-session.result.now c.index_mut-session.ensures.value in
+    let whole = step_by c.args.caller c.args.step in
+    let is : CalledBy (claim_in c.args.step) (world_of c.self.inside.limits c.self.inside.history c.self.inside.counts c.self.inside.table c.self.inside.sessions c.self.inside.locks c.self.inside.placed c.self.inside.words) c.args.caller c.index_mut-session.result.now whole c.answer-answer.result c.answer-answer.new.self c.answer-answer.new.table c.answer-answer.new.locks =
+    called _ c.self.invariant.tells c.index_mut-session.result.now (reach c.answer-answer.new.self c.answer-answer.new.table c.answer-answer.new.locks) c.answer-answer.ensures.placed c.args.caller c.args.step free.1 free.0 (some_stripe c.self.inside.limits.callers c.self.inside.limits.stripes c.self.inside.limits.buckets c.stripes.ensures.limits) (claims_of (claim_in c.args.step) _ _ whole c.self.view_is c.requires) c.answer-answer.result (rw (c.from-stripes.ensures ∙ c.stripes.ensures.value) at c.answer-answer.ensures.does) in
+    let entry = rw c.by-whole.ensures at c.entry_of-entry.ensures in
+    let asked = rw (c.claim.ensures, c.by-whole.ensures) at c.entry_room-room.ensures in
     let room = when_ok c.reserve.result c.if-is_err.ensures.value c.reserve.ensures.ok in
     let owes : sum_by owed_of c.self.inside.sessions.items ≡ c.self.inside.owed = sym c.self.invariant.owes in
-    let fits = called_room _ c.self.invariant.tells c.args.caller c.index_mut-session.result.now c.answer-answer.new.self free.1 c.args.step c.answer-answer.result c.answer-answer.new.table c.answer-answer.new.locks is c.add-self-inside.new.stance c.entry_of-entry.result c.entry_of-entry.ensures c.add-self-inside.ensures.stance (vec_len c.reserve.new.self) (vec_capacity c.reserve.new.self) (omega (arith, room, c.entry_room.ensures)) in
+    let fits = called_room _ c.self.invariant.tells c.args.caller c.index_mut-session.result.now c.answer-answer.new.self free.1 whole c.answer-answer.result c.answer-answer.new.table c.answer-answer.new.locks is c.add-self-inside.new.stance c.entry_of-entry.result entry c.add-self-inside.ensures.stance (vec_len c.reserve.new.self) (vec_capacity c.reserve.new.self) (omega (arith, room, asked)) in
     let pushed = c.add-self-inside.ensures.items ∙ ap (λ (es : List Entry). es ++ option_to_list c.entry_of-entry.result) c.reserve.ensures.items in
     record {
-      tells = rw (c.after-self-inside.ensures, c.placed_after-self-inside.ensures)
-          (called_tells _ c.self.invariant.tells c.args.caller c.index_mut-session.result.now c.answer-answer.new.self free.1 c.args.step c.answer-answer.result c.answer-answer.new.table c.answer-answer.new.locks is c.add-self-inside.new.stance c.entry_of-entry.result c.entry_of-entry.ensures c.add-self-inside.ensures.stance c.add-self-inside.new.history.items (c.add-self-inside.ensures.items ∙ ap (λ (es : List Entry). es ++ option_to_list c.entry_of-entry.result) c.reserve.ensures.items));
-      owes = called_owes _ c.self.invariant.tells c.args.caller c.index_mut-session.result.now c.answer-answer.new.self free.1 c.args.step c.answer-answer.result c.answer-answer.new.table c.answer-answer.new.locks is c.add-self-inside.new.stance c.entry_of-entry.result c.entry_of-entry.ensures c.self.inside.owed c.add-self-inside.result c.self.invariant.owes c.add-self-inside.ensures.owed;
+      tells = rw (c.after-self-inside.ensures, c.placed_after-self-inside.ensures, c.by-whole.ensures)
+          (called_tells _ c.self.invariant.tells c.args.caller c.index_mut-session.result.now c.answer-answer.new.self free.1 whole c.answer-answer.result c.answer-answer.new.table c.answer-answer.new.locks is c.add-self-inside.new.stance c.entry_of-entry.result entry c.add-self-inside.ensures.stance c.add-self-inside.new.history.items (c.add-self-inside.ensures.items ∙ ap (λ (es : List Entry). es ++ option_to_list c.entry_of-entry.result) c.reserve.ensures.items));
+      owes = called_owes _ c.self.invariant.tells c.args.caller c.index_mut-session.result.now c.answer-answer.new.self free.1 whole c.answer-answer.result c.answer-answer.new.table c.answer-answer.new.locks is c.add-self-inside.new.stance c.entry_of-entry.result entry c.self.inside.owed c.add-self-inside.result c.self.invariant.owes c.add-self-inside.ensures.owed;
       room = omega (arith, fits, c.add-self-inside.ensures.len, c.add-self-inside.ensures.capacity);
       noted = noted_then c.self.inside.limits.callers c.self.inside.history.items c.add-self-inside.new.history.items c.self.inside.begun.items c.note_begun.new.begun.items c.entry_of-entry.result c.self.invariant.noted pushed c.note_begun.ensures
-          (called_caller _ c.self.invariant.tells c.args.caller c.index_mut-session.result.now c.answer-answer.new.self free.1 c.args.step c.answer-answer.result c.answer-answer.new.table c.answer-answer.new.locks is c.entry_of-entry.result c.entry_of-entry.ensures);
+          (called_caller _ c.self.invariant.tells c.args.caller c.index_mut-session.result.now c.answer-answer.new.self free.1 whole c.answer-answer.result c.answer-answer.new.table c.answer-answer.new.locks is c.entry_of-entry.result entry);
     }
 
 pub returns-clause-moves : goal.returns-clause-moves
 returns-clause-moves c =
-    let free = free_at _ _ c.self.invariant.tells c.self.view_is c.args.caller c.args.step c.requires.owner _ c.refusal.ensures c.in_default.is c.index_mut-session.result.now c.index_mut-session.ensures.value in
-    let is : CalledBy c.args.claim (world_of c.self.inside.limits c.self.inside.history c.self.inside.counts c.self.inside.table c.self.inside.sessions c.self.inside.locks c.self.inside.placed c.self.inside.words) c.args.caller c.index_mut-session.result.now c.args.step c.answer-answer.result c.answer-answer.new.self c.answer-answer.new.table c.answer-answer.new.locks =
-    called _ c.self.invariant.tells c.index_mut-session.result.now (reach c.answer-answer.new.self c.answer-answer.new.table c.answer-answer.new.locks) c.answer-answer.ensures.placed c.args.claim c.args.caller c.args.step c.requires.owner free.1 free.0 (some_stripe c.self.inside.limits.callers c.self.inside.limits.stripes c.self.inside.limits.buckets c.stripes.ensures.limits) (claims_of c.args.claim _ _ c.args.step c.self.view_is c.requires.claim) c.answer-answer.result c.from-stripes.result (c.from-stripes.ensures ∙ c.stripes.ensures.value) c.answer-answer.ensures.does in
-    rw c.placed_after-self-inside.ensures
-    (goes_of c.args.claim _ _ _ _ _ c.self.view_is (called_move _ c.self.invariant.tells c.args.caller c.index_mut-session.result.now c.answer-answer.new.self free.1 c.args.step c.answer-answer.result c.answer-answer.new.table c.answer-answer.new.locks is c.add-self-inside.new.stance c.entry_of-entry.result c.entry_of-entry.ensures c.add-self-inside.new.history.items (c.add-self-inside.ensures.items ∙ ap (λ (es : List Entry). es ++ option_to_list c.entry_of-entry.result) c.reserve.ensures.items)))
+    let free = free_at _ _ c.self.invariant.tells c.self.view_is c.args.caller c.args.step _ c.refusal.ensures c.in_default.is c.index_mut-session.result.now c.index_mut-session.ensures.value in
+    let whole = step_by c.args.caller c.args.step in
+    let is : CalledBy (claim_in c.args.step) (world_of c.self.inside.limits c.self.inside.history c.self.inside.counts c.self.inside.table c.self.inside.sessions c.self.inside.locks c.self.inside.placed c.self.inside.words) c.args.caller c.index_mut-session.result.now whole c.answer-answer.result c.answer-answer.new.self c.answer-answer.new.table c.answer-answer.new.locks =
+    called _ c.self.invariant.tells c.index_mut-session.result.now (reach c.answer-answer.new.self c.answer-answer.new.table c.answer-answer.new.locks) c.answer-answer.ensures.placed c.args.caller c.args.step free.1 free.0 (some_stripe c.self.inside.limits.callers c.self.inside.limits.stripes c.self.inside.limits.buckets c.stripes.ensures.limits) (claims_of (claim_in c.args.step) _ _ whole c.self.view_is c.requires) c.answer-answer.result (rw (c.from-stripes.ensures ∙ c.stripes.ensures.value) at c.answer-answer.ensures.does) in
+    let entry = rw c.by-whole.ensures at c.entry_of-entry.ensures in
+    rw (c.placed_after-self-inside.ensures, c.by-whole.ensures)
+    (goes_of (claim_in c.args.step) _ _ _ _ _ c.self.view_is (called_move _ c.self.invariant.tells c.args.caller c.index_mut-session.result.now c.answer-answer.new.self free.1 whole c.answer-answer.result c.answer-answer.new.table c.answer-answer.new.locks is c.add-self-inside.new.stance c.entry_of-entry.result entry c.add-self-inside.new.history.items (c.add-self-inside.ensures.items ∙ ap (λ (es : List Entry). es ++ option_to_list c.entry_of-entry.result) c.reserve.ensures.items)))
 
 pub returns-clause-lists : goal.returns-clause-lists
 returns-clause-lists c =
-    let free = free_at _ _ c.self.invariant.tells c.self.view_is c.args.caller c.args.step c.requires.owner _ c.refusal.ensures c.in_default.is c.index_mut-session.result.now c.index_mut-session.ensures.value in
+    let free = free_at _ _ c.self.invariant.tells c.self.view_is c.args.caller c.args.step _ c.refusal.ensures c.in_default.is c.index_mut-session.result.now c.index_mut-session.ensures.value in
     let w : World = world_of c.self.inside.limits c.self.inside.history c.self.inside.counts c.self.inside.table c.self.inside.sessions c.self.inside.locks c.self.inside.placed c.self.inside.words in
     let now : World = world_after w c.args.caller (stance_as c.answer-answer.new.self c.add-self-inside.new.stance) c.add-self-inside.new.history.items c.after-self-inside.result c.answer-answer.new.table c.answer-answer.new.locks c.placed_after-self-inside.result in
-    lists_by_of c.args.claim _ _ _ _ _ c.self.view_is
+    lists_by_of (claim_in c.args.step) _ _ _ _ _ c.self.view_is
     (does w c.self.invariant.tells c.index_mut-session.result.now now c.answer-answer.new.self c.answer-answer.new.locks
-    c.answer-answer.ensures.rises c.size-size.ensures.stored c.args.claim c.from-stripes.result c.args.caller free.1 c.args.step c.requires.owner
-    (claims_of c.args.claim _ _ c.args.step c.self.view_is c.requires.claim) c.answer-answer.result c.answer-answer.ensures.does)
+    c.answer-answer.ensures.rises c.size-size.ensures.stored c.from-stripes.result c.args.caller free.1 c.args.step c.answer-answer.result c.answer-answer.ensures.does)
 
 pub returns-clause-cursors : goal.returns-clause-cursors
 returns-clause-cursors c =
-    let free = free_at _ _ c.self.invariant.tells c.self.view_is c.args.caller c.args.step c.requires.owner _ c.refusal.ensures c.in_default.is c.index_mut-session.result.now c.index_mut-session.ensures.value in
+    let free = free_at _ _ c.self.invariant.tells c.self.view_is c.args.caller c.args.step _ c.refusal.ensures c.in_default.is c.index_mut-session.result.now c.index_mut-session.ensures.value in
     let w : World = world_of c.self.inside.limits c.self.inside.history c.self.inside.counts c.self.inside.table c.self.inside.sessions c.self.inside.locks c.self.inside.placed c.self.inside.words in
     let now : World = world_after w c.args.caller (stance_as c.answer-answer.new.self c.add-self-inside.new.stance) c.add-self-inside.new.history.items c.after-self-inside.result c.answer-answer.new.table c.answer-answer.new.locks c.placed_after-self-inside.result in
-    cursors_of _ _ _ _ _ c.self.view_is (does_cursors w c.self.invariant.tells c.args.caller c.index_mut-session.result.now free.1 now c.answer-answer.new.self (stance_as c.answer-answer.new.self c.add-self-inside.new.stance) refl refl (c.answer-answer.ensures.placed.sound c.self.invariant.tells.sound) c.answer-answer.new.locks c.args.claim c.args.step c.requires.owner c.from-stripes.result c.answer-answer.result c.answer-answer.ensures.does)
+    cursors_of _ _ _ _ _ c.self.view_is (does_cursors w c.self.invariant.tells c.args.caller c.index_mut-session.result.now free.1 now c.answer-answer.new.self (stance_as c.answer-answer.new.self c.add-self-inside.new.stance) refl refl (c.answer-answer.ensures.placed.sound c.self.invariant.tells.sound) c.answer-answer.new.locks c.args.step c.from-stripes.result c.answer-answer.result c.answer-answer.ensures.does)
 
 pub returns-clause-cursor : goal.returns-clause-cursor
 returns-clause-cursor c = λ is_placed.
-    let free = free_at _ _ c.self.invariant.tells c.self.view_is c.args.caller c.args.step c.requires.owner _ c.refusal.ensures c.in_default.is c.index_mut-session.result.now c.index_mut-session.ensures.value in
+    let free = free_at _ _ c.self.invariant.tells c.self.view_is c.args.caller c.args.step _ c.refusal.ensures c.in_default.is c.index_mut-session.result.now c.index_mut-session.ensures.value in
     changes_there c.self.inside.sessions.items c.args.caller c.index_mut-session.result.now (stance_as c.answer-answer.new.self c.add-self-inside.new.stance) free.1
-    (placed_cursor c.args.claim c.from-stripes.result c.self.inside.counts c.args.step _ c.answer-answer.result _ c.answer-answer.ensures.does is_placed)
+    (placed_cursor c.from-stripes.result c.self.inside.counts c.args.caller c.args.step _ c.answer-answer.result _ c.answer-answer.ensures.does is_placed)
 
 pub returns-then-is_err-clause-moves : goal.returns-then-is_err-clause-moves
 returns-then-is_err-clause-moves c =
-    let none = none_of _ _ c.args.step _ c.self.view_is c.refusal.ensures c.in_default.is in
+    let whole = step_by c.args.caller c.args.step in
+    let none = none_of _ _ whole _ c.self.view_is c.refusal.ensures c.in_default.is in
     let w : World = world_of c.self.inside.limits c.self.inside.history c.self.inside.counts c.self.inside.table c.self.inside.sessions c.self.inside.locks c.self.inside.placed c.self.inside.words in
     let full = when_err c.reserve.result c.if-is_err.ensures.value c.reserve.ensures.full in
-    let some : 0 < reserved_by c.args.claim c.args.step = omega (arith, full, c.entry_room.ensures, c.self.invariant.owes, c.self.invariant.room) in
-    let some_more : 0 < reserved c.args.step = omega (arith, reserved_least c.args.claim c.args.step, some) in
-    goes_of c.args.claim _ _ _ _ _ c.self.view_is (subst (λ (h : List Entry). Goes c.args.claim (state_of w) c.args.step (answers.Refused NoMemory) (state_of (record w { history = h }))) (sym c.reserve.ensures.items) (goes_lacking c.args.claim (state_of w) c.args.step some (no_memory (state_of w) c.args.step none some_more)))
+    let asked = rw (c.claim.ensures, c.by-whole.ensures) at c.entry_room-room.ensures in
+    let some : 0 < reserved_by (claim_in c.args.step) whole = omega (arith, full, asked, c.self.invariant.owes, c.self.invariant.room) in
+    let some_more : 0 < reserved whole = omega (arith, reserved_least (claim_in c.args.step) whole, some) in
+    goes_of (claim_in c.args.step) _ _ _ _ _ c.self.view_is (subst (λ (h : List Entry). Goes (claim_in c.args.step) (state_of w) whole (answers.Refused NoMemory) (state_of (record w { history = h }))) (sym c.reserve.ensures.items) (goes_lacking (claim_in c.args.step) (state_of w) whole some (no_memory (state_of w) whole none some_more)))
 
 pub returns-then-is_err-clause-lists : goal.returns-then-is_err-clause-lists
 returns-then-is_err-clause-lists c =
     let w : World = world_of c.self.inside.limits c.self.inside.history c.self.inside.counts c.self.inside.table c.self.inside.sessions c.self.inside.locks c.self.inside.placed c.self.inside.words in
-    lists_by_of c.args.claim _ _ _ _ _ c.self.view_is (refused_lists c.args.claim (state_of w) (state_of (record w { history = c.reserve.new.self.items })) c.args.step NoMemory (inr refl) (record { nodes = refl; changes = refl }) refl)
+    lists_by_of (claim_in c.args.step) _ _ _ _ _ c.self.view_is (refused_lists (claim_in c.args.step) (state_of w) (state_of (record w { history = c.reserve.new.self.items })) (step_by c.args.caller c.args.step) NoMemory (inr refl) (record { nodes = refl; changes = refl }) refl)
 
 pub returns-in-Some-clause-moves : goal.returns-in-Some-clause-moves
-returns-in-Some-clause-moves c = goes_refused c.args.claim c.args.self.now c.args.step c.in-Some.refusal c.requires.claim (sym c.refusal.ensures ∙ c.in-Some.is)
+returns-in-Some-clause-moves c = goes_refused (claim_in c.args.step) c.args.self.now (step_by c.args.caller c.args.step) c.in-Some.refusal c.requires (sym c.refusal.ensures ∙ c.in-Some.is)
 
 pub returns-in-Some-clause-lists : goal.returns-in-Some-clause-lists
-returns-in-Some-clause-lists c = refused_lists c.args.claim c.args.self.now c.args.self.now c.args.step c.in-Some.refusal (fresh_or_lock c.args.claim c.args.self.now c.args.step c.in-Some.refusal c.requires.claim (sym c.refusal.ensures ∙ c.in-Some.is)) (record { nodes = refl; changes = refl }) refl
+returns-in-Some-clause-lists c = refused_lists (claim_in c.args.step) c.args.self.now c.args.self.now (step_by c.args.caller c.args.step) c.in-Some.refusal (fresh_or_lock (claim_in c.args.step) c.args.self.now (step_by c.args.caller c.args.step) c.in-Some.refusal c.requires (sym c.refusal.ensures ∙ c.in-Some.is)) (record { nodes = refl; changes = refl }) refl

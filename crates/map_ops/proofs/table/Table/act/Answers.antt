@@ -1,6 +1,6 @@
 use Rattle.std.proofs.Common.{refl, sym}
 use Rattle.map_ops.proofs.SoundLemmas.{still_sound}
-use Rattle.map_ops.proofs.KeepLemmas.{follows}
+use Rattle.map_ops.proofs.KeepLemmas.{does, follows}
 use Rattle.map_ops.proofs.table.Table.act.Goals as goal
 
 pub invariant_of-self : goal.invariant_of-self
@@ -8,8 +8,8 @@ invariant_of-self c = still_sound c.self.inside.list c.change-reply.new.list c.s
 
 pub returns-in-Ok-clause-acts : goal.returns-in-Ok-clause-acts
 returns-in-Ok-clause-acts c =
-    let does = rw c.into_plan-plan.ensures at (c.change-reply.ensures.does c.self.inside.buckets) in
-    rw (← c.self.view_is) (sym c.in-Ok.ensures.again, does)
+    let done = rw c.into_plan-plan.ensures at c.change-reply.ensures.does in
+    rw (← c.self.view_is) (sym c.in-Ok.ensures.again, does c.self.inside.list c.change-reply.new.list c.self.inside.buckets _ _ _ done)
 
 pub returns-in-Ok-clause-rises : goal.returns-in-Ok-clause-rises
 returns-in-Ok-clause-rises c = rw (← c.self.view_is) c.change-reply.ensures.follows.changes
